@@ -3,7 +3,7 @@ use Rattle.std.proofs.Common.{◌≡◌, ◌≢◌, ◌⊎◌, inl, inr, ℕ, �
 use Rattle.std.specs.List.{Contains}
 use Rattle.std.specs.Option.{option_map}
 use Rattle.std.proofs.lemmas.Bool.{cases_eq}
-use Rattle.sec_base.specs.Geometry.{page_count}
+use Rattle.sec_base.specs.Geometry.{GeometryView, page_count}
 use Rattle.sec_base.specs.declared.message.Message.{Message}
 use Rattle.cache_set.specs.declared.way.Way.{Way}
 use Rattle.cache_set.specs.Cache.{IsCache, IsLatest, places, set_at, way_at}
@@ -15,22 +15,22 @@ use Rattle.bonsai_tree.specs.NodeCache.{copy_of}
 use Rattle.bonsai_tree.proofs.Views.{some_copy}
 use Rattle.counter_cache.specs.Counters.{AreBlocks, CountersView, OnlyLeavingIsMade, block_sets, cached_block, cached_pages, leaving_page, most_blocks}
 
-module _ (levels : ℕ) (blocks blocks' : List (List Way)) (are : AreBlocks levels blocks) (cache : IsCache block_sets blocks') where
-  pub blocks_same : ((page : ℕ) → way_at blocks' page ≡ way_at blocks page) → AreBlocks levels blocks'
+module _ (geometry : GeometryView) (blocks blocks' : List (List Way)) (are : AreBlocks geometry blocks) (cache : IsCache block_sets blocks') where
+  pub blocks_same : ((page : ℕ) → way_at blocks' page ≡ way_at blocks page) → AreBlocks geometry blocks'
   blocks_same same = record {
     cache = cache;
     pages = λ page way found. are.pages page way (sym (same page) ∙ found);
     whole = λ page way found. are.whole page way (sym (same page) ∙ found);
   }
 
-  pub blocks_put : (page : ℕ) (block : List ℕ) (changed : Bool) → page < page_count levels → length block ≡ 64 →
+  pub blocks_put : (page : ℕ) (block : List ℕ) (changed : Bool) → page < page_count geometry → length block ≡ 64 →
       way_at blocks' page ≡ Some (record { place = page; changed = changed; copy = block }) →
-      ((other : ℕ) → other ≢ page → way_at blocks' other ≡ way_at blocks other) → AreBlocks levels blocks'
+      ((other : ℕ) → other ≢ page → way_at blocks' other ≡ way_at blocks other) → AreBlocks geometry blocks'
   blocks_put page block changed inside long here same = record {
     cache = cache;
     pages = λ other way found. elim (cases_eq other page) [
       | inr apart ↦ are.pages other way (sym (same other apart) ∙ found)
-      | inl e ↦ subst (λ (p : ℕ). p < page_count levels) (sym e) inside
+      | inl e ↦ subst (λ (p : ℕ). p < page_count geometry) (sym e) inside
     ];
     whole = λ other way found. elim (cases_eq other page) [
       | inr apart ↦ are.whole other way (sym (same other apart) ∙ found)
@@ -41,9 +41,9 @@ module _ (levels : ℕ) (blocks blocks' : List (List Way)) (are : AreBlocks leve
     ];
   }
 
-pub blocks_left : (levels : ℕ) (blocks blocks' : List (List Way)) (page : ℕ) → AreBlocks levels blocks → IsCache block_sets blocks' → way_at blocks' page ≡ None →
-    ((other : ℕ) → other ≢ page → way_at blocks' other ≡ way_at blocks other) → AreBlocks levels blocks'
-blocks_left levels blocks blocks' page are cache gone same = record {
+pub blocks_left : (geometry : GeometryView) (blocks blocks' : List (List Way)) (page : ℕ) → AreBlocks geometry blocks → IsCache block_sets blocks' → way_at blocks' page ≡ None →
+    ((other : ℕ) → other ≢ page → way_at blocks' other ≡ way_at blocks other) → AreBlocks geometry blocks'
+blocks_left geometry blocks blocks' page are cache gone same = record {
   cache = cache;
   pages = λ other way found. elim (cases_eq other page) [
     | inr apart ↦ are.pages other way (sym (same other apart) ∙ found)
@@ -84,19 +84,19 @@ same_pages blocks blocks' page cache there same other listed = elim (cases_eq ot
   | inr apart ↦ listed_at blocks other (subst (λ (o : Option Way). IsSome o) (same other apart) (found_at block_sets blocks' other cache listed))
 ]
 
-pub few_blocks : (levels : ℕ) (blocks : List (List Way)) → AreBlocks levels blocks → length (places blocks) ≤ most_blocks
-few_blocks levels blocks are = omega (arith, few_in block_sets 0 blocks are.cache.sets_are, are.cache.counted)
+pub few_blocks : (geometry : GeometryView) (blocks : List (List Way)) → AreBlocks geometry blocks → length (places blocks) ≤ most_blocks
+few_blocks geometry blocks are = omega (arith, few_in block_sets 0 blocks are.cache.sets_are, are.cache.counted)
 
-some_inside : (levels page : ℕ) (found : Option Way) → ((way : Way) → found ≡ Some way → page < page_count levels) → IsSome found → page < page_count levels
-some_inside levels page None inside found = absurd (cc)
-some_inside levels page (Some way) inside found = inside way refl
+some_inside : (geometry : GeometryView) (page : ℕ) (found : Option Way) → ((way : Way) → found ≡ Some way → page < page_count geometry) → IsSome found → page < page_count geometry
+some_inside geometry page None inside found = absurd (cc)
+some_inside geometry page (Some way) inside found = inside way refl
 
 -- they are of the memory
-pub pages_inside : (levels levels' : ℕ) (blocks : List (List Way)) → levels ≡ levels' → AreBlocks levels blocks → (page : ℕ) → Contains (places blocks) page →
-    page < page_count levels'
-pages_inside levels levels' blocks same are page listed =
-    subst (λ (l : ℕ). page < page_count l) same
-    (some_inside levels page (way_at blocks page) (are.pages page) (found_at block_sets blocks page are.cache listed))
+pub pages_inside : (geometry : GeometryView) (geometry' : GeometryView) (blocks : List (List Way)) → geometry ≡ geometry' → AreBlocks geometry blocks → (page : ℕ) → Contains (places blocks) page →
+    page < page_count geometry'
+pages_inside geometry geometry' blocks same are page listed =
+    subst (λ (l : GeometryView). page < page_count l) same
+    (some_inside geometry page (way_at blocks page) (are.pages page) (found_at block_sets blocks page are.cache listed))
 
 -- where a page's own copy stays, and those of all others
 pub stays_all : (counters counters' : CountersView) (page : ℕ) →

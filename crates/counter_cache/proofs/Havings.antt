@@ -1,5 +1,5 @@
 -- Calls that have a block on the chip, one after another, and how they are made of calls of the tree and of changes of copies.
-use Rattle.std.proofs.Common.{◌≡◌, ◌≢◌, ◌⊎◌, inl, inr, ℕ, ◌+◌, ◌/◌, ◌^◌, ◌≤◌, true, false, List, ◌++◌, length, Option, Some, None, refl, ap, sym, ◌∙◌, subst, arith, length-append}
+use Rattle.std.proofs.Common.{◌≡◌, ◌≢◌, ◌⊎◌, inl, inr, ℕ, ◌+◌, ◌≤◌, true, false, List, ◌++◌, length, Option, Some, None, refl, ap, sym, ◌∙◌, subst, arith, length-append}
 use Rattle.std.specs.List.{Contains}
 use Rattle.std.proofs.lemmas.Bool.{cases_eq}
 use Rattle.sec_base.specs.Count.{Rose, RoseBy}
@@ -20,7 +20,7 @@ use Rattle.checked_bus.specs.Steps.{IsAccounted, Moves, SameLines, unwritten_in}
 use Rattle.checked_bus.proofs.Steps.{moves_not, moves_on, same_lines_not, same_lines_on}
 use Rattle.checked_bus.proofs.Writes.{writes_on}
 use Rattle.split_counter.specs.CounterBlock.{block_of}
-use Rattle.bonsai_tree.specs.Node.{CachedNode, block_or_zeros, current_of, page_block}
+use Rattle.bonsai_tree.specs.Node.{CachedNode, block_or_zeros, current_of, page_block, path_index}
 use Rattle.bonsai_tree.specs.Tree.{HoldsTree, IsFetchPlace, IsNodeFrom, NodeCame, NodesAreMade, NodesHoldLast, PathWasRead, SlotsAreTags, TreeView, UnmadeAreUnread, WasReadUp, above, cached_node}
 use Rattle.bonsai_tree.proofs.Climbs.{came_after, came_before, read_up_held, read_up_on, unchanged_writes, unmade_before}
 use Rattle.bonsai_tree.proofs.Nodes.{same_tags, some_not_none}
@@ -28,13 +28,14 @@ use Rattle.bonsai_tree.proofs.PathCalls.{not_from_one}
 use Rattle.counter_cache.specs.Counters.{AreBlocks, CameFrom, CountersView, HasFewNodes, HoldsCounters, SameCounters, cached_block, cached_pages, counters_in, current_page}
 use Rattle.counter_cache.specs.Having.{Has}
 use Rattle.counter_cache.proofs.BlockCopies.{cached_held, held_cached}
+use Rattle.sec_base.specs.Geometry.{GeometryView}
 
 -- What a call of the tree says.
 pub record TreeCall {T : Type 0} (tags : TagEngineView T → Message → List ℕ) (Where : Place → Type 0) (tree : TreeView) (old : BusHistory)
     (engine : TagEngineView T) (tree' : TreeView) (new : BusHistory) (engine' : TagEngineView T) (stop : Option MemStop) : Type 0 where
   pub moves : Moves old engine new engine'
   pub lines : SameLines old engine.made new engine'.made
-  pub levels : tree'.levels ≡ tree.levels
+  pub geometry : tree'.geometry ≡ tree.geometry
   pub root : tree'.root ≡ tree.root
   pub few_nodes : HasFewNodes tree'
   pub holds : HoldsTree tags tree old engine → stop ≢ Some NoMemory → HoldsTree tags tree' new engine'
@@ -47,10 +48,10 @@ pub record TreeCall {T : Type 0} (tags : TagEngineView T → Message → List �
   pub found : engine.evidence ≡ None → (evidence : Evidence) → engine'.evidence ≡ Some evidence → Where (evidence_place evidence)
   pub unspent : (spent : ℕ) → stop ≢ Some (Spent spent)
   pub writes : (more : List Message) → engine'.made ≡ engine.made ++ more → WritesMessages old new (length more) (unwritten_in stop)
-  pub made_blocks : NodesAreMade tree.levels engine.made old.written → NodesAreMade tree.levels engine'.made new.written
-  pub last_blocks : stop ≢ Some NoMemory → NodesHoldLast tree.levels engine.made old.written → NodesHoldLast tree.levels engine'.made new.written
-  pub slots : HoldsTree tags tree old engine → engine'.evidence ≡ None → SlotsAreTags (tags engine) tree.levels engine.made →
-      SlotsAreTags (tags engine) tree.levels engine'.made
+  pub made_blocks : NodesAreMade tree.geometry engine.made old.written → NodesAreMade tree.geometry engine'.made new.written
+  pub last_blocks : stop ≢ Some NoMemory → NodesHoldLast tree.geometry engine.made old.written → NodesHoldLast tree.geometry engine'.made new.written
+  pub slots : HoldsTree tags tree old engine → engine'.evidence ≡ None → SlotsAreTags (tags engine) tree.geometry engine.made →
+      SlotsAreTags (tags engine) tree.geometry engine'.made
   pub read : HoldsTree tags tree old engine → engine'.evidence ≡ None → (level index : ℕ) → cached_node tree' level index ≢ None →
       WasReadUp tree engine.made level index old new
   pub unread : HoldsTree tags tree old engine → engine'.evidence ≡ None → UnmadeAreUnread old engine'.made new
@@ -85,7 +86,7 @@ module _ {T : Type 0} (d n : T → List ℕ → List ℕ) (Where : Place → Typ
   has_not counters history engine = record {
     moves = moves_not history engine;
     lines = same_lines_not history engine.made;
-    levels = refl;
+    geometry = refl;
     root = refl;
     blocks = λ are. are;
     few_nodes = λ few. few;
@@ -126,7 +127,7 @@ module _ {T : Type 0} (d n : T → List ℕ → List ℕ) (Where : Place → Typ
       record {
         moves = moves;
         lines = same_lines_on first second third engine.made engine'.made engine''.made has.lines more.lines;
-        levels = more.levels ∙ has.levels;
+        geometry = more.geometry ∙ has.geometry;
         root = more.root ∙ has.root;
         blocks = λ are. more.blocks (has.blocks are);
         few_nodes = λ few. more.few_nodes (has.few_nodes few);
@@ -168,23 +169,23 @@ module _ {T : Type 0} (d n : T → List ℕ → List ℕ) (Where : Place → Typ
         unspent = more.unspent;
         writes = subst (λ (k : ℕ). WritesMessages first third k (unwritten_in stop)) (sym long)
             (writes_on first second third (length has.moves.more) (length more.moves.more) (unwritten_in stop)
-            more.moves.bus_levels more.moves.reads more.moves.accesses has.writes more.writes);
+            more.moves.bus_geometry more.moves.reads more.moves.accesses has.writes more.writes);
         made_blocks = λ was.
-            subst (λ (k : ℕ). NodesAreMade k engine''.made third.written) has.levels
-            (more.made_blocks (subst (λ (k : ℕ). NodesAreMade k engine'.made second.written) (sym has.levels) (has.made_blocks was)));
+            subst (λ (k : GeometryView). NodesAreMade k engine''.made third.written) has.geometry
+            (more.made_blocks (subst (λ (k : GeometryView). NodesAreMade k engine'.made second.written) (sym has.geometry) (has.made_blocks was)));
         last_blocks = λ remembered was.
-            subst (λ (k : ℕ). NodesHoldLast k engine''.made third.written) has.levels
-            (more.last_blocks remembered (subst (λ (k : ℕ). NodesHoldLast k engine'.made second.written) (sym has.levels) (has.last_blocks going was)));
+            subst (λ (k : GeometryView). NodesHoldLast k engine''.made third.written) has.geometry
+            (more.last_blocks remembered (subst (λ (k : GeometryView). NodesHoldLast k engine'.made second.written) (sym has.geometry) (has.last_blocks going was)));
         slots = λ holds quiet tagged.
             let still : engine'.evidence ≡ None = was_none engine'.evidence engine''.evidence more.moves.evidence quiet in
-            subst (λ (t : Message → List ℕ). SlotsAreTags t counters.tree.levels engine''.made) tags
-            (subst (λ (k : ℕ). SlotsAreTags (tags_of d n engine') k engine''.made) has.levels
+            subst (λ (t : Message → List ℕ). SlotsAreTags t counters.tree.geometry engine''.made) tags
+            (subst (λ (k : GeometryView). SlotsAreTags (tags_of d n engine') k engine''.made) has.geometry
             (more.slots (has.holds holds going) quiet
-            (subst (λ (k : ℕ). SlotsAreTags (tags_of d n engine') k engine'.made) (sym has.levels)
-            (subst (λ (t : Message → List ℕ). SlotsAreTags t counters.tree.levels engine'.made) (sym tags) (has.slots holds still tagged)))));
+            (subst (λ (k : GeometryView). SlotsAreTags (tags_of d n engine') k engine'.made) (sym has.geometry)
+            (subst (λ (t : Message → List ℕ). SlotsAreTags t counters.tree.geometry engine'.made) (sym tags) (has.slots holds still tagged)))));
         read = λ holds quiet level index held.
             let still : engine'.evidence ≡ None = was_none engine'.evidence engine''.evidence more.moves.evidence quiet in
-            read_up_on counters.tree mid.tree engine.made engine'.made level index first second third has.levels has.moves.reads more.moves.reads
+            read_up_on counters.tree mid.tree engine.made engine'.made level index first second third has.geometry has.moves.reads more.moves.reads
             (unmade_before engine.made engine'.made has.moves.more has.moves.made) (has.read holds still)
             (more.read (has.holds holds going) quiet level index held);
         unread = λ holds quiet level index none.
@@ -214,9 +215,9 @@ module _ {T : Type 0} (d n : T → List ℕ → List ℕ) (Where : Place → Typ
   has_tree counters tree' old new engine engine' stop call kept = record {
     moves = call.moves;
     lines = call.lines;
-    levels = call.levels;
+    geometry = call.geometry;
     root = call.root;
-    blocks = λ are. subst (λ (k : ℕ). AreBlocks k counters.blocks) (sym call.levels) are;
+    blocks = λ are. subst (λ (k : GeometryView). AreBlocks k counters.blocks) (sym call.geometry) are;
     few_nodes = λ few. call.few_nodes;
     holds = λ holds memory. record {
       tree = call.holds holds.tree memory;
@@ -246,7 +247,7 @@ module _ {T : Type 0} (d n : T → List ℕ → List ℕ) (Where : Place → Typ
 
   -- a change of copies alone
   pub has_recached : (counters counters' : CountersView) (history : BusHistory) (engine : TagEngineView T) → counters'.tree ≡ counters.tree →
-      (AreBlocks counters.tree.levels counters.blocks → AreBlocks counters.tree.levels counters'.blocks) →
+      (AreBlocks counters.tree.geometry counters.blocks → AreBlocks counters.tree.geometry counters'.blocks) →
       (HoldsCounters (tags_of d n) counters history engine → engine.evidence ≡ None → (page : ℕ) →
       current_page counters' engine.made page ≡ current_page counters engine.made page) →
       ((page : ℕ) (copy : CachedNode) → cached_block counters' page ≡ Some copy → cached_block counters page ≡ Some copy) →
@@ -254,9 +255,9 @@ module _ {T : Type 0} (d n : T → List ℕ → List ℕ) (Where : Place → Typ
   has_recached counters counters' history engine tree are same fewer = record {
     moves = moves_not history engine;
     lines = same_lines_not history engine.made;
-    levels = ap (λ (t : TreeView). t.levels) tree;
+    geometry = ap (λ (t : TreeView). t.geometry) tree;
     root = ap (λ (t : TreeView). t.root) tree;
-    blocks = λ was. subst (λ (k : ℕ). AreBlocks k counters'.blocks) (sym (ap (λ (t : TreeView). t.levels) tree)) (are was);
+    blocks = λ was. subst (λ (k : GeometryView). AreBlocks k counters'.blocks) (sym (ap (λ (t : TreeView). t.geometry) tree)) (are was);
     few_nodes = λ few. subst (λ (t : TreeView). HasFewNodes t) (sym tree) few;
     holds = λ holds memory. record {
       tree = subst (λ (t : TreeView). HoldsTree (tags_of d n) t history engine) (sym tree) holds.tree;
@@ -281,7 +282,7 @@ module _ {T : Type 0} (d n : T → List ℕ → List ℕ) (Where : Place → Typ
 
   -- all copies are the same
   pub has_touched : (counters counters' : CountersView) (history : BusHistory) (engine : TagEngineView T) → counters'.tree ≡ counters.tree →
-      AreBlocks counters.tree.levels counters'.blocks → ((page : ℕ) → cached_block counters' page ≡ cached_block counters page) →
+      AreBlocks counters.tree.geometry counters'.blocks → ((page : ℕ) → cached_block counters' page ≡ cached_block counters page) →
       Has (tags_of d n) Where counters history engine counters' history engine None
   has_touched counters counters' history engine tree are same =
       has_recached counters counters' history engine tree (λ was. are)
@@ -290,7 +291,7 @@ module _ {T : Type 0} (d n : T → List ℕ → List ℕ) (Where : Place → Typ
 
   -- a copy is gone that was the last block of its page
   pub has_dropped : (page : ℕ) (counters counters' : CountersView) (history : BusHistory) (engine : TagEngineView T) (copy : CachedNode) →
-      counters'.tree ≡ counters.tree → AreBlocks counters.tree.levels counters'.blocks → cached_block counters page ≡ Some copy → cached_block counters' page ≡ None →
+      counters'.tree ≡ counters.tree → AreBlocks counters.tree.geometry counters'.blocks → cached_block counters page ≡ Some copy → cached_block counters' page ≡ None →
       ((other : ℕ) → other ≢ page → cached_block counters' other ≡ cached_block counters other) →
       (HoldsCounters (tags_of d n) counters history engine → engine.evidence ≡ None → copy.block ≡ page_block page engine.made) →
       Has (tags_of d n) Where counters history engine counters' history engine None
@@ -316,7 +317,7 @@ module _ {T : Type 0} (d n : T → List ℕ → List ℕ) (Where : Place → Typ
       (known : HoldsTree (tags_of d n) counters.tree old engine → engine'.evidence ≡ None → block ≡ page_block page engine.made)
       (own : Where (node_place 0 page))
       (came : HoldsTree (tags_of d n) counters.tree old engine → engine'.evidence ≡ None → CameFrom engine.made old new page)
-      (tree_is : counters'.tree ≡ tree') (are : AreBlocks tree'.levels counters'.blocks) (absent : cached_block counters page ≡ None)
+      (tree_is : counters'.tree ≡ tree') (are : AreBlocks tree'.geometry counters'.blocks) (absent : cached_block counters page ≡ None)
       (put : cached_block counters' page ≡ Some (record { block = block; changed = false }))
       (same : (other : ℕ) → other ≢ page → cached_block counters' other ≡ cached_block counters other) where
     before : Has (tags_of d n) Where counters old engine (over tree' counters) new engine' None
@@ -350,9 +351,9 @@ module _ {T : Type 0} (d n : T → List ℕ → List ℕ) (Where : Place → Typ
     has_put = record {
       moves = before.moves;
       lines = before.lines;
-      levels = ap (λ (t : TreeView). t.levels) tree_is ∙ call.levels;
+      geometry = ap (λ (t : TreeView). t.geometry) tree_is ∙ call.geometry;
       root = ap (λ (t : TreeView). t.root) tree_is ∙ call.root;
-      blocks = λ was. subst (λ (t : TreeView). AreBlocks t.levels counters'.blocks) (sym tree_is) are;
+      blocks = λ was. subst (λ (t : TreeView). AreBlocks t.geometry counters'.blocks) (sym tree_is) are;
       few_nodes = λ few. subst (λ (t : TreeView). HasFewNodes t) (sym tree_is) call.few_nodes;
       holds = λ holds memory. record {
         tree = subst (λ (t : TreeView). HoldsTree (tags_of d n) t new engine') (sym tree_is) (call.holds holds.tree going);
@@ -401,7 +402,7 @@ has_as : {T : Type 0} (d n : T → List ℕ → List ℕ) (Some_of All_of : Plac
 has_as d n Some_of All_of counters counters' old new engine engine' stop wider has = record {
   moves = has.moves;
   lines = has.lines;
-  levels = has.levels;
+  geometry = has.geometry;
   root = has.root;
   blocks = has.blocks;
   few_nodes = has.few_nodes;
@@ -427,19 +428,19 @@ has_as d n Some_of All_of counters counters' old new engine engine' stop wider h
 
 -- room that is made for a page's block, from copies that are the same
 pub has_room : {T : Type 0} (d n : T → List ℕ → List ℕ) (page : ℕ) (counters touched counters' : CountersView) (old new : BusHistory) (engine engine' : TagEngineView T)
-    (stop : Option MemStop) → touched ≡ counters → Has (tags_of d n) (IsNodeFrom touched.tree.levels 1) touched old engine counters' new engine' stop →
-    Has (tags_of d n) (IsFetchPlace counters.tree.levels page) counters old engine counters' new engine' stop
+    (stop : Option MemStop) → touched ≡ counters → Has (tags_of d n) (IsNodeFrom touched.tree.geometry 1) touched old engine counters' new engine' stop →
+    Has (tags_of d n) (IsFetchPlace counters.tree.geometry page) counters old engine counters' new engine' stop
 has_room d n page counters touched counters' old new engine engine' stop same has =
-    subst (λ (v : CountersView). Has (tags_of d n) (IsFetchPlace v.tree.levels page) v old engine counters' new engine' stop) same
-    (has_as d n (IsNodeFrom touched.tree.levels 1) (IsFetchPlace touched.tree.levels page) touched counters' old new engine engine' stop (λ place from. inr from) has)
+    subst (λ (v : CountersView). Has (tags_of d n) (IsFetchPlace v.tree.geometry page) v old engine counters' new engine' stop) same
+    (has_as d n (IsNodeFrom touched.tree.geometry 1) (IsFetchPlace touched.tree.geometry page) touched counters' old new engine engine' stop (λ place from. inr from) has)
 
 -- a page's place that is read where a block is fetched is that of its own page
-fetched_page : (levels page other : ℕ) → IsFetchPlace levels page (node_place 0 other) → other ≡ page
-fetched_page levels page other (inl same) = let e : other ≡ page = cc in e
-fetched_page levels page other (inr from) = absurd (not_from_one levels other (node_place 0 other) refl from)
+fetched_page : (geometry : GeometryView) (page other : ℕ) → IsFetchPlace geometry page (node_place 0 other) → other ≡ page
+fetched_page geometry page other (inl same) = let e : other ≡ page = cc in e
+fetched_page geometry page other (inr from) = absurd (not_from_one geometry other (node_place 0 other) refl from)
 
 module _ {T : Type 0} (d n : T → List ℕ → List ℕ) (page : ℕ) (counters counters' : CountersView) (old new : BusHistory) (engine engine' : TagEngineView T)
-    (stop : Option MemStop) (has : Has (tags_of d n) (IsFetchPlace counters.tree.levels page) counters old engine counters' new engine' stop) where
+    (stop : Option MemStop) (has : Has (tags_of d n) (IsFetchPlace counters.tree.geometry page) counters old engine counters' new engine' stop) where
   -- the messages that were made more
   pub has_writes : (more : List Message) → engine'.made ≡ engine.made ++ more → WritesMessages old new (length more) (unwritten_in stop)
   has_writes more is =
@@ -448,13 +449,13 @@ module _ {T : Type 0} (d n : T → List ℕ → List ℕ) (page : ℕ) (counters
       subst (λ (k : ℕ). WritesMessages old new k (unwritten_in stop)) same has.writes
 
   -- the pages that have a copy
-  pub has_pages : AreBlocks counters'.tree.levels counters'.blocks → HoldsCounters (tags_of d n) counters old engine →
+  pub has_pages : AreBlocks counters'.tree.geometry counters'.blocks → HoldsCounters (tags_of d n) counters old engine →
       engine'.evidence ≡ None → (other : ℕ) → Contains (cached_pages counters') other →
       Contains (cached_pages counters) other ⊎ ((other ≡ page) × CameFrom engine.made old new page)
   has_pages are holds quiet other cached = elim (has.copied holds quiet other (cached_held counters' other are.cache cached)) [
     | inl held ↦ inl (held_cached counters other held)
     | inr came ↦
-        let is : other ≡ page = fetched_page counters.tree.levels page other came.0 in
+        let is : other ≡ page = fetched_page counters.tree.geometry page other came.0 in
         inr (is, subst (λ (p : ℕ). CameFrom engine.made old new p) is came.1)
   ]
 
@@ -466,32 +467,32 @@ path_up : (tree : TreeView) (made : List Message) (page : ℕ) (old new : BusHis
     WasReadUp tree made 0 page old new
 path_up tree made page old new path = record {
   rose = λ more inside none.
-      subst (λ (k : ℕ). NodeCame made k (above tree.levels page more) old new) (sym (zero_more more))
+      subst (λ (k : ℕ). NodeCame made k (above tree.geometry page more) old new) (sym (zero_more more))
       (path.rose more (omega arith) (omega (arith, inside))
-      (λ lower from_zero few. ap (λ (k : ℕ). cached_node tree k (above tree.levels page lower)) (sym (zero_more lower)) ∙ none lower few));
+      (λ lower from_zero few. ap (λ (k : ℕ). cached_node tree k (above tree.geometry page lower)) (sym (zero_more lower)) ∙ none lower few));
 }
 
 up_path : (tree : TreeView) (made : List Message) (page : ℕ) (old new : BusHistory) → WasReadUp tree made 0 page old new →
     PathWasRead tree made 0 page old new
 up_path tree made page old new up = record {
   rose = λ level low high none.
-      subst (λ (k : ℕ). NodeCame made k (above tree.levels page level) old new) (zero_more level)
+      subst (λ (k : ℕ). NodeCame made k (above tree.geometry page level) old new) (zero_more level)
       (up.rose level (omega (arith, high))
-      (λ lower few. ap (λ (k : ℕ). cached_node tree k (above tree.levels page lower)) (zero_more lower) ∙ none lower (omega arith) few));
+      (λ lower few. ap (λ (k : ℕ). cached_node tree k (above tree.geometry page lower)) (zero_more lower) ∙ none lower (omega arith) few));
 }
 
 -- it was read, also where a call came between that brought nodes in
-pub path_on : (tree mid : TreeView) (page : ℕ) (made made' : List Message) (first second third : BusHistory) → mid.levels ≡ tree.levels →
+pub path_on : (tree mid : TreeView) (page : ℕ) (made made' : List Message) (first second third : BusHistory) → mid.geometry ≡ tree.geometry →
     ((place : Place) → RoseBy 0 (first.reads place) (second.reads place)) → ((place : Place) → RoseBy 0 (second.reads place) (third.reads place)) →
     ((level index : ℕ) → cached_node mid level index ≢ None → WasReadUp tree made level index first second) →
     ((level index : ℕ) → last_node level index made' ≡ None → last_node level index made ≡ None) →
     PathWasRead mid made' 0 page second third → PathWasRead tree made 0 page first third
-path_on tree mid page made made' first second third levels before after read unmade path =
+path_on tree mid page made made' first second third geometry before after read unmade path =
     up_path tree made page first third
-    (read_up_on tree mid made made' 0 page first second third levels before after unmade read (path_up mid made' page second third path))
+    (read_up_on tree mid made made' 0 page first second third geometry before after unmade read (path_up mid made' page second third path))
 
 -- level 0 has no copies in the tree
-pub no_copy_below : (tree : TreeView) (lower page : ℕ) → lower ≤ 0 → cached_node tree lower (page / 4 ^ lower) ≡ None
+pub no_copy_below : (tree : TreeView) (lower page : ℕ) → lower ≤ 0 → cached_node tree lower (path_index tree.geometry lower page) ≡ None
 no_copy_below tree lower page few =
     let first : 0 ≡ lower = omega arith in
-    subst (λ (k : ℕ). cached_node tree k (page / 4 ^ k) ≡ None) first refl
+    subst (λ (k : ℕ). cached_node tree k (path_index tree.geometry k page) ≡ None) first refl

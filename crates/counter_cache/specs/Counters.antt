@@ -1,7 +1,7 @@
 -- What contracts see of the counters of all pages: the tree over their counter blocks, and the copies of counter blocks.
 use Rattle.std.specs.Prelude.{◌≡◌, ◌⊎◌, ℕ, ◌*◌, ◌%◌, ◌<◌, ◌≤◌, List, [], ◌∷◌, ◌++◌, length, true, false, Option, Some, None}
 use Rattle.std.specs.Option.{option_map}
-use Rattle.sec_base.specs.Geometry.{page_count}
+use Rattle.sec_base.specs.Geometry.{GeometryView, page_count}
 use Rattle.sec_base.specs.LastMessage.{last_node}
 use Rattle.sec_base.specs.declared.evidence.Evidence.{Evidence}
 use Rattle.sec_base.specs.declared.evidence.Evidence.TheVariants.{Collision}
@@ -87,14 +87,14 @@ abbrev pub HasFewNodes : TreeView → Type 0
 HasFewNodes tree = (level : ℕ) → length (cached_nodes tree level) ≤ most_copies
 
 -- Each copy is of a page's block, and whole.
-pub record AreBlocks (levels : ℕ) (blocks : List (List Way)) : Type 0 where
+pub record AreBlocks (geometry : GeometryView) (blocks : List (List Way)) : Type 0 where
   pub cache : IsCache block_sets blocks
-  pub pages : (page : ℕ) (way : Way) → way_at blocks page ≡ Some way → page < page_count levels
+  pub pages : (page : ℕ) (way : Way) → way_at blocks page ≡ Some way → page < page_count geometry
   pub whole : (page : ℕ) (way : Way) → way_at blocks page ≡ Some way → length way.copy ≡ 64
 
 -- The copies of blocks are right, and there are few of nodes.
 pub record AreCopies (counters : CountersView) : Type 0 where
-  pub blocks : AreBlocks counters.tree.levels counters.blocks
+  pub blocks : AreBlocks counters.tree.geometry counters.blocks
   pub few_nodes : HasFewNodes counters.tree
 
 -- There is evidence, or the tree over the counter blocks fits, and a copy that was not changed is the last block of its page.

@@ -22,9 +22,9 @@ pub record Has {T : Type 0} (tags : TagEngineView T → Message → List ℕ) (W
     (engine : TagEngineView T) (counters' : CountersView) (new : BusHistory) (engine' : TagEngineView T) (stop : Option MemStop) : Type 0 where
   pub moves : Moves old engine new engine'
   pub lines : SameLines old engine.made new engine'.made
-  pub levels : counters'.tree.levels ≡ counters.tree.levels
+  pub geometry : counters'.tree.geometry ≡ counters.tree.geometry
   pub root : counters'.tree.root ≡ counters.tree.root
-  pub blocks : AreBlocks counters.tree.levels counters.blocks → AreBlocks counters'.tree.levels counters'.blocks
+  pub blocks : AreBlocks counters.tree.geometry counters.blocks → AreBlocks counters'.tree.geometry counters'.blocks
   pub few_nodes : HasFewNodes counters.tree → HasFewNodes counters'.tree
   -- what holds, holds still, unless there was no memory, and no counter changes
   pub holds : HoldsCounters tags counters old engine → stop ≢ Some NoMemory → HoldsCounters tags counters' new engine'
@@ -41,12 +41,12 @@ pub record Has {T : Type 0} (tags : TagEngineView T → Message → List ℕ) (W
   pub unspent : (spent : ℕ) → stop ≢ Some (Spent spent)
   -- what was made was written
   pub writes : WritesMessages old new (length moves.more) (unwritten_in stop)
-  pub made_blocks : NodesAreMade counters.tree.levels engine.made old.written → NodesAreMade counters.tree.levels engine'.made new.written
-  pub last_blocks : stop ≢ Some NoMemory → NodesHoldLast counters.tree.levels engine.made old.written →
-      NodesHoldLast counters.tree.levels engine'.made new.written
+  pub made_blocks : NodesAreMade counters.tree.geometry engine.made old.written → NodesAreMade counters.tree.geometry engine'.made new.written
+  pub last_blocks : stop ≢ Some NoMemory → NodesHoldLast counters.tree.geometry engine.made old.written →
+      NodesHoldLast counters.tree.geometry engine'.made new.written
   -- slots of nodes that were made have the tags of their children's last messages, or zeros
-  pub slots : HoldsCounters tags counters old engine → engine'.evidence ≡ None → SlotsAreTags (tags engine) counters.tree.levels engine.made →
-      SlotsAreTags (tags engine) counters.tree.levels engine'.made
+  pub slots : HoldsCounters tags counters old engine → engine'.evidence ≡ None → SlotsAreTags (tags engine) counters.tree.geometry engine.made →
+      SlotsAreTags (tags engine) counters.tree.geometry engine'.made
   -- what has a copy was read, or had one, or was never made; what was never made is not read
   pub read : HoldsCounters tags counters old engine → engine'.evidence ≡ None → (level index : ℕ) →
       cached_node counters'.tree level index ≢ None → WasReadUp counters.tree engine.made level index old new

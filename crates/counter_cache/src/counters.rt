@@ -62,12 +62,12 @@ impl Counters {
         bus: &mut B,
         tags: &mut TagEngine<T>,
     ) -> Result<Counters, NoMemory>
-        requires bus { (B.history bus.old).levels ≡ geometry }
-        requires engine { tags.old.levels ≡ geometry }
+        requires bus { (B.history bus.old).geometry ≡ geometry }
+        requires engine { tags.old.geometry ≡ geometry }
         requires nothing_written { NothingWritten (B.history bus.old) }
         requires nothing_made { tags.old.made ≡ [] }
 
-        ensures levels { IfOk result (λ counters. counters.tree.levels ≡ geometry) }
+        ensures geometry { IfOk result (λ counters. counters.tree.geometry ≡ geometry) }
         ensures root { IfOk result (λ counters. counters.tree.root ≡ no_tag) }
         ensures empty { IfOk result (λ counters. cached_pages counters ≡ []) }
         ensures empty_nodes { IfOk result (λ counters. (level : ℕ) → cached_nodes counters.tree level ≡ []) }
@@ -93,11 +93,11 @@ impl Counters {
         tags: &mut TagEngine<T>,
         page: u32,
     ) -> Result<CounterBlock, MemStop>
-        requires page { page < page_count self.old.tree.levels }
-        requires bus { (B.history bus.old).levels ≡ self.old.tree.levels }
-        requires engine { tags.old.levels ≡ self.old.tree.levels }
+        requires page { page < page_count self.old.tree.geometry }
+        requires bus { (B.history bus.old).geometry ≡ self.old.tree.geometry }
+        requires engine { tags.old.geometry ≡ self.old.tree.geometry }
 
-        ensures levels { self.new.tree.levels ≡ self.old.tree.levels }
+        ensures geometry { self.new.tree.geometry ≡ self.old.tree.geometry }
         ensures root { self.new.tree.root ≡ self.old.tree.root }
         ensures holds { HoldsCounters (tags_of T.data_tag_of T.node_tag_of) self.old (B.history bus.old) tags.old →
             result ≢ Err no_memory → HoldsCounters (tags_of T.data_tag_of T.node_tag_of) self.new (B.history bus.new) tags.new }
@@ -117,13 +117,13 @@ impl Counters {
             IsAccounted (tags_of T.data_tag_of T.node_tag_of tags.old) used tags.old.made (B.history bus.old) None tags.old.evidence →
             IsAccounted (tags_of T.data_tag_of T.node_tag_of tags.old) used tags.new.made (B.history bus.new) (result_err result) tags.new.evidence }
         ensures found { (evidence : Evidence) → tags.old.evidence ≡ None → tags.new.evidence ≡ Some evidence →
-            IsFetchPlace self.old.tree.levels page (evidence_place evidence) }
+            IsFetchPlace self.old.tree.geometry page (evidence_place evidence) }
         ensures shown { HoldsCounters (tags_of T.data_tag_of T.node_tag_of) self.old (B.history bus.old) tags.old →
             tags.old.evidence ≡ None → tags.new.evidence ≢ None → Rose (B.history bus.old).lies (B.history bus.new).lies }
         ensures tampered { (at : Place) → result ≡ Err (Tampered at) →
             HoldsCounters (tags_of T.data_tag_of T.node_tag_of) self.old (B.history bus.old) tags.old →
             tags.old.evidence ≡ None → Rose (B.history bus.old).lies (B.history bus.new).lies }
-        ensures at_place { (at : Place) → result ≡ Err (Tampered at) → IsFetchPlace self.old.tree.levels page at }
+        ensures at_place { (at : Place) → result ≡ Err (Tampered at) → IsFetchPlace self.old.tree.geometry page at }
         ensures unspent { (spent : ℕ) → result ≢ Err (stop_spent spent) }
         ensures accepted { (made_at : ℕ) (bytes tag : List ℕ) → tags.old.evidence ≡ None →
             tags.new.evidence ≡ Some (Collision 0 page made_at bytes tag) → result ≡ Ok (block_of bytes) }
@@ -134,7 +134,7 @@ impl Counters {
         // there is no evidence, it is read from its place, and so are the nodes above it up to the lowest one that has a copy;
         // but none is read that was never made. A block that has a copy makes no access.
         ensures parent { ¬ Contains (cached_pages self.old) page →
-            OnOk result (cached_node self.new.tree 1 (parent self.old.tree.levels 0 page).1 ≢ None) }
+            OnOk result (cached_node self.new.tree 1 (parent self.old.tree.geometry 0 page).1 ≢ None) }
         ensures alone { (other : ℕ) → other ≢ page →
             (B.history bus.new).reads (node_place 0 other) ≡ (B.history bus.old).reads (node_place 0 other) }
         ensures read { HoldsCounters (tags_of T.data_tag_of T.node_tag_of) self.old (B.history bus.old) tags.old →
@@ -145,12 +145,12 @@ impl Counters {
         ensures idle { Contains (cached_pages self.old) page → (B.history bus.new ≡ B.history bus.old) × (tags.new ≡ tags.old) }
         ensures cached { OnOk result (Contains (cached_pages self.new) page) }
         ensures latest { OnOk result (IsLatest self.new.blocks page) }
-        ensures once { (B.history bus.new).accesses ≤ (B.history bus.old).accesses + counter_accesses self.old.tree.levels }
-        ensures few { length tags.new.made ≤ length tags.old.made + counter_accesses self.old.tree.levels }
-        ensures room { tags.old.room ≤ tags.new.room + counter_accesses self.old.tree.levels }
+        ensures once { (B.history bus.new).accesses ≤ (B.history bus.old).accesses + counter_accesses self.old.tree.geometry.levels }
+        ensures few { length tags.new.made ≤ length tags.old.made + counter_accesses self.old.tree.geometry.levels }
+        ensures room { tags.old.room ≤ tags.new.room + counter_accesses self.old.tree.geometry.levels }
         ensures no_rise { tags.new.room ≤ tags.old.room }
         ensures few_copies { length (cached_pages self.new) ≤ most_blocks }
-        ensures pages { (other : ℕ) → Contains (cached_pages self.new) other → other < page_count self.old.tree.levels }
+        ensures pages { (other : ℕ) → Contains (cached_pages self.new) other → other < page_count self.old.tree.geometry }
         ensures new_copies { HoldsCounters (tags_of T.data_tag_of T.node_tag_of) self.old (B.history bus.old) tags.old →
             tags.new.evidence ≡ None → (other : ℕ) → Contains (cached_pages self.new) other → Contains (cached_pages self.old) other
             ⊎ ((other ≡ page) × CameFrom tags.old.made (B.history bus.old) (B.history bus.new) page) }
@@ -173,19 +173,19 @@ impl Counters {
         ensures other_ways { OnOk result (without page (set_at self.new.blocks page) ≡ ways_beside self.old page) }
         ensures other_sets { (other : ℕ) → set_of other ≢ set_of page → set_at self.new.blocks other ≡ set_at self.old.blocks other }
         ensures once_clean { LeavesClean self.old page →
-            (B.history bus.new).accesses ≤ (B.history bus.old).accesses + path_accesses self.old.tree.levels }
+            (B.history bus.new).accesses ≤ (B.history bus.old).accesses + path_accesses self.old.tree.geometry.levels }
         ensures written { OnlyLeavingIsMade self.old page tags.old.made tags.new.made }
 
         ensures moves { Moves (B.history bus.old) tags.old (B.history bus.new) tags.new }
         ensures lines { SameLines (B.history bus.old) tags.old.made (B.history bus.new) tags.new.made }
         ensures moved { B.moved bus.old bus.new }
         ensures slots { HoldsCounters (tags_of T.data_tag_of T.node_tag_of) self.old (B.history bus.old) tags.old →
-            tags.new.evidence ≡ None → SlotsAreTags (tags_of T.data_tag_of T.node_tag_of tags.old) self.old.tree.levels tags.old.made →
-            SlotsAreTags (tags_of T.data_tag_of T.node_tag_of tags.old) self.old.tree.levels tags.new.made }
-        ensures made_blocks { NodesAreMade self.old.tree.levels tags.old.made (B.history bus.old).written →
-            NodesAreMade self.old.tree.levels tags.new.made (B.history bus.new).written }
-        ensures last_blocks { NodesHoldLast self.old.tree.levels tags.old.made (B.history bus.old).written →
-            result ≢ Err no_memory → NodesHoldLast self.old.tree.levels tags.new.made (B.history bus.new).written }
+            tags.new.evidence ≡ None → SlotsAreTags (tags_of T.data_tag_of T.node_tag_of tags.old) self.old.tree.geometry tags.old.made →
+            SlotsAreTags (tags_of T.data_tag_of T.node_tag_of tags.old) self.old.tree.geometry tags.new.made }
+        ensures made_blocks { NodesAreMade self.old.tree.geometry tags.old.made (B.history bus.old).written →
+            NodesAreMade self.old.tree.geometry tags.new.made (B.history bus.new).written }
+        ensures last_blocks { NodesHoldLast self.old.tree.geometry tags.old.made (B.history bus.old).written →
+            result ≢ Err no_memory → NodesHoldLast self.old.tree.geometry tags.new.made (B.history bus.new).written }
         ensures writes { (more : List Message) → tags.new.made ≡ tags.old.made ++ more →
             WritesMessages (B.history bus.old) (B.history bus.new) (length more) (unwritten_in (result_err result)) }
     {
@@ -203,12 +203,12 @@ impl Counters {
         place: u8,
         limit: u64,
     ) -> Result<Bumped, MemStop>
-        requires page { page < page_count self.old.tree.levels }
+        requires page { page < page_count self.old.tree.geometry }
         requires place { place < 64 }
-        requires bus { (B.history bus.old).levels ≡ self.old.tree.levels }
-        requires engine { tags.old.levels ≡ self.old.tree.levels }
+        requires bus { (B.history bus.old).geometry ≡ self.old.tree.geometry }
+        requires engine { tags.old.geometry ≡ self.old.tree.geometry }
 
-        ensures levels { self.new.tree.levels ≡ self.old.tree.levels }
+        ensures geometry { self.new.tree.geometry ≡ self.old.tree.geometry }
         ensures root { self.new.tree.root ≡ self.old.tree.root }
         ensures holds { HoldsCounters (tags_of T.data_tag_of T.node_tag_of) self.old (B.history bus.old) tags.old →
             result ≢ Err no_memory → HoldsCounters (tags_of T.data_tag_of T.node_tag_of) self.new (B.history bus.new) tags.new }
@@ -244,20 +244,20 @@ impl Counters {
             IsAccounted (tags_of T.data_tag_of T.node_tag_of tags.old) used tags.old.made (B.history bus.old) None tags.old.evidence →
             IsAccounted (tags_of T.data_tag_of T.node_tag_of tags.old) used tags.new.made (B.history bus.new) (result_err result) tags.new.evidence }
         ensures found { (evidence : Evidence) → tags.old.evidence ≡ None → tags.new.evidence ≡ Some evidence →
-            IsFetchPlace self.old.tree.levels page (evidence_place evidence) }
+            IsFetchPlace self.old.tree.geometry page (evidence_place evidence) }
         ensures shown { HoldsCounters (tags_of T.data_tag_of T.node_tag_of) self.old (B.history bus.old) tags.old →
             tags.old.evidence ≡ None → tags.new.evidence ≢ None → Rose (B.history bus.old).lies (B.history bus.new).lies }
         ensures tampered { (at : Place) → result ≡ Err (Tampered at) →
             HoldsCounters (tags_of T.data_tag_of T.node_tag_of) self.old (B.history bus.old) tags.old →
             tags.old.evidence ≡ None → Rose (B.history bus.old).lies (B.history bus.new).lies }
-        ensures at_place { (at : Place) → result ≡ Err (Tampered at) → IsFetchPlace self.old.tree.levels page at }
+        ensures at_place { (at : Place) → result ≡ Err (Tampered at) → IsFetchPlace self.old.tree.geometry page at }
         ensures unspent { (spent : ℕ) → result ≢ Err (stop_spent spent) }
 
         // A block without a copy is had by the node above it, which has a copy then, and no other page's block is read. Where
         // there is no evidence, it is read from its place, and so are the nodes above it up to the lowest one that has a copy;
         // but none is read that was never made. A block that has a copy makes no access.
         ensures parent { ¬ Contains (cached_pages self.old) page →
-            OnOk result (cached_node self.new.tree 1 (parent self.old.tree.levels 0 page).1 ≢ None) }
+            OnOk result (cached_node self.new.tree 1 (parent self.old.tree.geometry 0 page).1 ≢ None) }
         ensures alone { (other : ℕ) → other ≢ page →
             (B.history bus.new).reads (node_place 0 other) ≡ (B.history bus.old).reads (node_place 0 other) }
         ensures read { HoldsCounters (tags_of T.data_tag_of T.node_tag_of) self.old (B.history bus.old) tags.old →
@@ -269,12 +269,12 @@ impl Counters {
         ensures hit { Contains (cached_pages self.old) page → IsOk result }
         ensures cached { OnOk result (Contains (cached_pages self.new) page) }
         ensures latest { OnOk result (IsLatest self.new.blocks page) }
-        ensures once { (B.history bus.new).accesses ≤ (B.history bus.old).accesses + counter_accesses self.old.tree.levels }
-        ensures few { length tags.new.made ≤ length tags.old.made + counter_accesses self.old.tree.levels }
-        ensures room { tags.old.room ≤ tags.new.room + counter_accesses self.old.tree.levels }
+        ensures once { (B.history bus.new).accesses ≤ (B.history bus.old).accesses + counter_accesses self.old.tree.geometry.levels }
+        ensures few { length tags.new.made ≤ length tags.old.made + counter_accesses self.old.tree.geometry.levels }
+        ensures room { tags.old.room ≤ tags.new.room + counter_accesses self.old.tree.geometry.levels }
         ensures no_rise { tags.new.room ≤ tags.old.room }
         ensures few_copies { length (cached_pages self.new) ≤ most_blocks }
-        ensures pages { (other : ℕ) → Contains (cached_pages self.new) other → other < page_count self.old.tree.levels }
+        ensures pages { (other : ℕ) → Contains (cached_pages self.new) other → other < page_count self.old.tree.geometry }
         ensures new_copies { HoldsCounters (tags_of T.data_tag_of T.node_tag_of) self.old (B.history bus.old) tags.old →
             tags.new.evidence ≡ None → (other : ℕ) → Contains (cached_pages self.new) other → Contains (cached_pages self.old) other
             ⊎ ((other ≡ page) × CameFrom tags.old.made (B.history bus.old) (B.history bus.new) page) }
@@ -294,19 +294,19 @@ impl Counters {
         ensures other_ways { OnOk result (without page (set_at self.new.blocks page) ≡ ways_beside self.old page) }
         ensures other_sets { (other : ℕ) → set_of other ≢ set_of page → set_at self.new.blocks other ≡ set_at self.old.blocks other }
         ensures once_clean { LeavesClean self.old page →
-            (B.history bus.new).accesses ≤ (B.history bus.old).accesses + path_accesses self.old.tree.levels }
+            (B.history bus.new).accesses ≤ (B.history bus.old).accesses + path_accesses self.old.tree.geometry.levels }
         ensures written { OnlyLeavingIsMade self.old page tags.old.made tags.new.made }
 
         ensures moves { Moves (B.history bus.old) tags.old (B.history bus.new) tags.new }
         ensures lines { SameLines (B.history bus.old) tags.old.made (B.history bus.new) tags.new.made }
         ensures moved { B.moved bus.old bus.new }
         ensures slots { HoldsCounters (tags_of T.data_tag_of T.node_tag_of) self.old (B.history bus.old) tags.old →
-            tags.new.evidence ≡ None → SlotsAreTags (tags_of T.data_tag_of T.node_tag_of tags.old) self.old.tree.levels tags.old.made →
-            SlotsAreTags (tags_of T.data_tag_of T.node_tag_of tags.old) self.old.tree.levels tags.new.made }
-        ensures made_blocks { NodesAreMade self.old.tree.levels tags.old.made (B.history bus.old).written →
-            NodesAreMade self.old.tree.levels tags.new.made (B.history bus.new).written }
-        ensures last_blocks { NodesHoldLast self.old.tree.levels tags.old.made (B.history bus.old).written →
-            result ≢ Err no_memory → NodesHoldLast self.old.tree.levels tags.new.made (B.history bus.new).written }
+            tags.new.evidence ≡ None → SlotsAreTags (tags_of T.data_tag_of T.node_tag_of tags.old) self.old.tree.geometry tags.old.made →
+            SlotsAreTags (tags_of T.data_tag_of T.node_tag_of tags.old) self.old.tree.geometry tags.new.made }
+        ensures made_blocks { NodesAreMade self.old.tree.geometry tags.old.made (B.history bus.old).written →
+            NodesAreMade self.old.tree.geometry tags.new.made (B.history bus.new).written }
+        ensures last_blocks { NodesHoldLast self.old.tree.geometry tags.old.made (B.history bus.old).written →
+            result ≢ Err no_memory → NodesHoldLast self.old.tree.geometry tags.new.made (B.history bus.new).written }
         ensures writes { (more : List Message) → tags.new.made ≡ tags.old.made ++ more →
             WritesMessages (B.history bus.old) (B.history bus.new) (length more) (unwritten_in (result_err result)) }
     {
@@ -326,15 +326,15 @@ impl Counters {
         tags: &mut TagEngine<T>,
         page: u32,
     ) -> Result<(), MemStop>
-        requires page { page < page_count self.old.tree.levels }
-        requires bus { (B.history bus.old).levels ≡ self.old.tree.levels }
-        requires engine { tags.old.levels ≡ self.old.tree.levels }
+        requires page { page < page_count self.old.tree.geometry }
+        requires bus { (B.history bus.old).geometry ≡ self.old.tree.geometry }
+        requires engine { tags.old.geometry ≡ self.old.tree.geometry }
 
-        ensures has { Has (tags_of T.data_tag_of T.node_tag_of) (IsFetchPlace self.old.tree.levels page)
+        ensures has { Has (tags_of T.data_tag_of T.node_tag_of) (IsFetchPlace self.old.tree.geometry page)
             self.old (B.history bus.old) tags.old self.new (B.history bus.new) tags.new (result_err result) }
-        ensures once { (B.history bus.new).accesses ≤ (B.history bus.old).accesses + counter_accesses self.old.tree.levels }
-        ensures few { length tags.new.made ≤ length tags.old.made + counter_accesses self.old.tree.levels }
-        ensures room { tags.old.room ≤ tags.new.room + counter_accesses self.old.tree.levels }
+        ensures once { (B.history bus.new).accesses ≤ (B.history bus.old).accesses + counter_accesses self.old.tree.geometry.levels }
+        ensures few { length tags.new.made ≤ length tags.old.made + counter_accesses self.old.tree.geometry.levels }
+        ensures room { tags.old.room ≤ tags.new.room + counter_accesses self.old.tree.geometry.levels }
         ensures no_rise { tags.new.room ≤ tags.old.room }
         ensures latest { OnOk result (IsLatest self.new.blocks page) }
         ensures copies { AreCopies self.new }
@@ -348,7 +348,7 @@ impl Counters {
             tags.new.evidence ≡ None → ¬ Contains (cached_pages self.old) page →
             OnOk result (PathWasRead self.old.tree tags.old.made 0 page (B.history bus.old) (B.history bus.new)) }
         ensures parent { ¬ Contains (cached_pages self.old) page →
-            OnOk result (cached_node self.new.tree 1 (parent self.old.tree.levels 0 page).1 ≢ None) }
+            OnOk result (cached_node self.new.tree 1 (parent self.old.tree.geometry 0 page).1 ≢ None) }
         ensures alone { (other : ℕ) → other ≢ page →
             (B.history bus.new).reads (node_place 0 other) ≡ (B.history bus.old).reads (node_place 0 other) }
         ensures goes { (other : ℕ) → leaving_page self.old page ≡ Some other → OnOk result (cached_block self.new other ≡ None) }
@@ -362,7 +362,7 @@ impl Counters {
         ensures other_ways { OnOk result (without page (set_at self.new.blocks page) ≡ ways_beside self.old page) }
         ensures other_sets { (other : ℕ) → set_of other ≢ set_of page → set_at self.new.blocks other ≡ set_at self.old.blocks other }
         ensures once_clean { LeavesClean self.old page →
-            (B.history bus.new).accesses ≤ (B.history bus.old).accesses + path_accesses self.old.tree.levels }
+            (B.history bus.new).accesses ≤ (B.history bus.old).accesses + path_accesses self.old.tree.geometry.levels }
         ensures written { OnlyLeavingIsMade self.old page tags.old.made tags.new.made }
         ensures moved { B.moved bus.old bus.new }
     {
@@ -382,16 +382,16 @@ impl Counters {
         tags: &mut TagEngine<T>,
         page: u32,
     ) -> Result<(), MemStop>
-        requires page { page < page_count self.old.tree.levels }
+        requires page { page < page_count self.old.tree.geometry }
         requires absent { way_at self.old.blocks page ≡ None }
-        requires bus { (B.history bus.old).levels ≡ self.old.tree.levels }
-        requires engine { tags.old.levels ≡ self.old.tree.levels }
+        requires bus { (B.history bus.old).geometry ≡ self.old.tree.geometry }
+        requires engine { tags.old.geometry ≡ self.old.tree.geometry }
 
-        ensures has { Has (tags_of T.data_tag_of T.node_tag_of) (IsNodeFrom self.old.tree.levels 1)
+        ensures has { Has (tags_of T.data_tag_of T.node_tag_of) (IsNodeFrom self.old.tree.geometry 1)
             self.old (B.history bus.old) tags.old self.new (B.history bus.new) tags.new (result_err result) }
-        ensures once { (B.history bus.new).accesses ≤ (B.history bus.old).accesses + path_accesses self.old.tree.levels }
-        ensures few { length tags.new.made ≤ length tags.old.made + path_accesses self.old.tree.levels }
-        ensures room { tags.old.room ≤ tags.new.room + path_accesses self.old.tree.levels }
+        ensures once { (B.history bus.new).accesses ≤ (B.history bus.old).accesses + path_accesses self.old.tree.geometry.levels }
+        ensures few { length tags.new.made ≤ length tags.old.made + path_accesses self.old.tree.geometry.levels }
+        ensures room { tags.old.room ≤ tags.new.room + path_accesses self.old.tree.geometry.levels }
         ensures no_rise { tags.new.room ≤ tags.old.room }
         ensures absent { way_at self.new.blocks page ≡ None }
         ensures room_for { OnOk result (HasRoom (set_at self.new.blocks page)) }
@@ -422,16 +422,16 @@ impl Counters {
         tags: &mut TagEngine<T>,
         victim: &Way,
     ) -> Result<(), MemStop>
-        requires page { victim.now.place < page_count self.old.tree.levels }
+        requires page { victim.now.place < page_count self.old.tree.geometry }
         requires held { way_at self.old.blocks victim.now.place ≡ Some victim.now }
-        requires bus { (B.history bus.old).levels ≡ self.old.tree.levels }
-        requires engine { tags.old.levels ≡ self.old.tree.levels }
+        requires bus { (B.history bus.old).geometry ≡ self.old.tree.geometry }
+        requires engine { tags.old.geometry ≡ self.old.tree.geometry }
 
-        ensures has { Has (tags_of T.data_tag_of T.node_tag_of) (IsNodeFrom self.old.tree.levels 1)
+        ensures has { Has (tags_of T.data_tag_of T.node_tag_of) (IsNodeFrom self.old.tree.geometry 1)
             self.old (B.history bus.old) tags.old self.new (B.history bus.new) tags.new (result_err result) }
-        ensures once { (B.history bus.new).accesses ≤ (B.history bus.old).accesses + path_accesses self.old.tree.levels }
-        ensures few { length tags.new.made ≤ length tags.old.made + path_accesses self.old.tree.levels }
-        ensures room { tags.old.room ≤ tags.new.room + path_accesses self.old.tree.levels }
+        ensures once { (B.history bus.new).accesses ≤ (B.history bus.old).accesses + path_accesses self.old.tree.geometry.levels }
+        ensures few { length tags.new.made ≤ length tags.old.made + path_accesses self.old.tree.geometry.levels }
+        ensures room { tags.old.room ≤ tags.new.room + path_accesses self.old.tree.geometry.levels }
         ensures no_rise { tags.new.room ≤ tags.old.room }
         ensures blocks { self.new.blocks ≡ self.old.blocks }
         ensures last { OnOk result (HoldsCounters (tags_of T.data_tag_of T.node_tag_of) self.new (B.history bus.new) tags.new →

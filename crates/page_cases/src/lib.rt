@@ -3,7 +3,8 @@
 #![tactic(auto)]
 
 ghost use Rattle.std.specs.Prelude.{◌≡◌, ◌<◌};
-ghost use Rattle.sec_base.specs.Place.{place_size};
+ghost use Rattle.sec_base.specs.Geometry.{one};
+ghost use Rattle.sec_base.specs.Place.{stored_size};
 ghost use Rattle.bus_model.specs.BusHistory.{NothingWritten};
 ghost use Rattle.bus_model.specs.FlipBus.{flip_history};
 
@@ -33,7 +34,7 @@ impl<T: Tagger> Memory<T> {
         page_limit: u64,
     ) -> Result<Memory<T>, Fail>
         requires nothing_written { NothingWritten (flip_history bus) }
-        requires levels { (flip_history bus).levels ≡ geometry }
+        requires geometry { (flip_history bus).geometry ≡ geometry }
     {
         let lines = SealedLines::boot(alloc, bus, tagger, &[7; 16], geometry, page_limit);
         Ok(Memory {
@@ -72,7 +73,7 @@ impl<T: Tagger> Memory<T> {
     }
 }
 
-/// Over a bus for a tree of so many levels that flips the lowest bit of a byte at the `k`-th read of a place.
+/// Over a bus for a tree of layout One with so many levels that flips the lowest bit of a byte at the `k`-th read of a place.
 pub fn booted<T: Tagger>(
     alloc: Global,
     tagger: T,
@@ -82,7 +83,7 @@ pub fn booted<T: Tagger>(
     k: u64,
     offset: u8,
 ) -> Result<Memory<T>, Fail>
-    requires { offset < place_size place }
+    requires { offset < stored_size (one levels) place }
 {
     let geometry = Geometry::new(levels).ok_or("no geometry")?;
     let bus = CountingBus::flipping(alloc, geometry, place, k, offset)?;

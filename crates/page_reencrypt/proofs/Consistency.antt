@@ -9,7 +9,7 @@ use Rattle.sec_base.specs.declared.message.Message.{Message}
 use Rattle.sec_base.specs.declared.message.Message.TheVariants.{Line}
 use Rattle.sec_base.specs.declared.place.Place.{Place}
 use Rattle.sec_base.specs.declared.place.Place.TheVariants.{Line as line_place, Node}
-use Rattle.sec_base.specs.Geometry.{line_count}
+use Rattle.sec_base.specs.Geometry.{GeometryView, line_count}
 use Rattle.sec_base.specs.LastMessage.{counter_part, data_pairs, last_data, last_pair}
 use Rattle.sec_base.specs.Place.{at_place, zeros_of}
 use Rattle.sec_base.proofs.LastMessages.{last_of_same, last_of_other}
@@ -87,9 +87,9 @@ risen_more used line old counter rising had later =
 
 -- A line was encrypted and tagged under a counter
 
-module _ (tag_of : Message → List ℕ) (levels : ℕ) (history : BusHistory) (made : List Message) (used : List (ℕ × Counter))
-    (line : ℕ) (counter : Counter) (cipher : List ℕ) (kept : IsConsistent tag_of levels history made used)
-    (inside : line < line_count levels) (long : length cipher ≡ 64) where
+module _ (tag_of : Message → List ℕ) (geometry : GeometryView) (history : BusHistory) (made : List Message) (used : List (ℕ × Counter))
+    (line : ℕ) (counter : Counter) (cipher : List ℕ) (kept : IsConsistent tag_of geometry history made used)
+    (inside : line < line_count geometry) (long : length cipher ≡ 64) where
   abbrev made_now : List Message
   made_now = made ++ Line line counter cipher ∷ []
 
@@ -99,8 +99,8 @@ module _ (tag_of : Message → List ℕ) (levels : ℕ) (history : BusHistory) (
   abbrev line_now : List ℕ
   line_now = sealed_line tag_of line counter cipher
 
-  sealed_before : HoldsSealed tag_of (line_count levels) made_now used_now history.written
-  sealed_before = holds_more tag_of (line_count levels) made (Line line counter cipher ∷ []) used ((line, counter) ∷ []) history.written kept.sealed
+  sealed_before : HoldsSealed tag_of (line_count geometry) made_now used_now history.written
+  sealed_before = holds_more tag_of (line_count geometry) made (Line line counter cipher ∷ []) used ((line, counter) ∷ []) history.written kept.sealed
 
   sealed_here : IsSealed tag_of made_now used_now line line_now
   sealed_here = record {
@@ -111,7 +111,7 @@ module _ (tag_of : Message → List ℕ) (levels : ℕ) (history : BusHistory) (
     sealed = refl;
   }
 
-  sealed_after : HoldsSealed tag_of (line_count levels) made_now used_now (at_place (line_place line) line_now history.written)
+  sealed_after : HoldsSealed tag_of (line_count geometry) made_now used_now (at_place (line_place line) line_now history.written)
   sealed_after = record {
     holds = λ other within.
         elim (cases_eq other line) [
@@ -128,13 +128,13 @@ module _ (tag_of : Message → List ℕ) (levels : ℕ) (history : BusHistory) (
         ];
   }
 
-  nodes_after : NodesAreMade levels made_now (at_place (line_place line) line_now history.written)
+  nodes_after : NodesAreMade geometry made_now (at_place (line_place line) line_now history.written)
   nodes_after =
-      nodes_more levels made (Line line counter cipher ∷ []) history.written (at_place (line_place line) line_now history.written) kept.nodes
+      nodes_more geometry made (Line line counter cipher ∷ []) history.written (at_place (line_place line) line_now history.written) kept.nodes
       (node_there line line_now history.written)
 
   -- what was tagged last stands outside
-  pub written_last : HoldsLast tag_of (line_count levels) made history.written → HoldsLast tag_of (line_count levels) made_now (at_place (line_place line) line_now history.written)
+  pub written_last : HoldsLast tag_of (line_count geometry) made history.written → HoldsLast tag_of (line_count geometry) made_now (at_place (line_place line) line_now history.written)
   written_last was = record {
     holds = λ other found bytes within last.
         elim (cases_eq other line) [
@@ -154,11 +154,11 @@ module _ (tag_of : Message → List ℕ) (levels : ℕ) (history : BusHistory) (
         ];
   }
 
-  consistent_at : (history' : BusHistory) → history'.levels ≡ history.levels → HoldsSealed tag_of (line_count levels) made_now used_now history'.written →
-      NodesAreMade levels made_now history'.written → IsConsistent tag_of levels history' made_now used_now
+  consistent_at : (history' : BusHistory) → history'.geometry ≡ history.geometry → HoldsSealed tag_of (line_count geometry) made_now used_now history'.written →
+      NodesAreMade geometry made_now history'.written → IsConsistent tag_of geometry history' made_now used_now
   consistent_at history' same sealed nodes = record {
-    bus_levels = same ∙ kept.bus_levels;
-    paired = paired_more (line_count levels) made used line counter cipher kept.paired inside;
+    bus_geometry = same ∙ kept.bus_geometry;
+    paired = paired_more (line_count geometry) made used line counter cipher kept.paired inside;
     long = λ other found bytes listed.
         elim (Contains-push_cases made (Line line counter cipher) (Line other found bytes) listed) [
           | inl early ↦ kept.long other found bytes early
@@ -169,17 +169,17 @@ module _ (tag_of : Message → List ℕ) (levels : ℕ) (history : BusHistory) (
   }
 
   -- it was written with its tag
-  pub written_consistent : (history' : BusHistory) → history'.levels ≡ history.levels → history'.written ≡ at_place (line_place line) line_now history.written →
-      IsConsistent tag_of levels history' made_now used_now
+  pub written_consistent : (history' : BusHistory) → history'.geometry ≡ history.geometry → history'.written ≡ at_place (line_place line) line_now history.written →
+      IsConsistent tag_of geometry history' made_now used_now
   written_consistent history' same wrote =
       consistent_at history' same
-      (subst (HoldsSealed tag_of (line_count levels) made_now used_now) (sym wrote) sealed_after)
-      (subst (NodesAreMade levels made_now) (sym wrote) nodes_after)
+      (subst (HoldsSealed tag_of (line_count geometry) made_now used_now) (sym wrote) sealed_after)
+      (subst (NodesAreMade geometry made_now) (sym wrote) nodes_after)
 
   -- there was no memory to write it
-  pub unwritten_consistent : (history' : BusHistory) → history'.levels ≡ history.levels → history'.written ≡ history.written →
-      IsConsistent tag_of levels history' made_now used_now
+  pub unwritten_consistent : (history' : BusHistory) → history'.geometry ≡ history.geometry → history'.written ≡ history.written →
+      IsConsistent tag_of geometry history' made_now used_now
   unwritten_consistent history' same unwritten =
       consistent_at history' same
-      (subst (HoldsSealed tag_of (line_count levels) made_now used_now) (sym unwritten) sealed_before)
-      (nodes_more levels made (Line line counter cipher ∷ []) history.written history'.written kept.nodes (λ level index. ap (λ (w : Place → List ℕ). w (Node level index)) unwritten))
+      (subst (HoldsSealed tag_of (line_count geometry) made_now used_now) (sym unwritten) sealed_before)
+      (nodes_more geometry made (Line line counter cipher ∷ []) history.written history'.written kept.nodes (λ level index. ap (λ (w : Place → List ℕ). w (Node level index)) unwritten))

@@ -1,7 +1,7 @@
 -- A memory of which no line was written.
 use Rattle.std.proofs.Common.{◌≡◌, ℕ, ◌<◌, inl, List, [], slice_index, None, Contains, refl, ap, sym, ◌∙◌, subst, arith}
 use Rattle.std.proofs.lemmas.List.{get_or-replicate}
-use Rattle.sec_base.specs.Geometry.{IsNode, line_count, page_count}
+use Rattle.sec_base.specs.Geometry.{GeometryView, IsNode, line_count, page_count}
 use Rattle.sec_base.specs.LastMessage.{last_at, data_pairs}
 use Rattle.sec_base.specs.declared.counter.Counter.{Counter}
 use Rattle.sec_base.specs.declared.message.Message.{Message}
@@ -29,13 +29,13 @@ new_says block page is line of_page =
     let zero : slice_index new_block.lines (place_of line) ≡ 0 = get_or-replicate 64 (place_of line) 0 0 (omega arith) in
     ap (λ (n : ℕ). let c : Counter = record { page = 0; line = n } in c) (sym zero) ∙ ap (counter_of (place_of line)) (sym is)
 
-new_consistent : (tag_of : Message → List ℕ) (levels : ℕ) (history : BusHistory) → history.levels ≡ levels → NothingWritten history →
-    NodesAreMade levels [] history.written → IsConsistent tag_of levels history [] []
-new_consistent tag_of levels history same empty nodes = record {
-  bus_levels = same;
+new_consistent : (tag_of : Message → List ℕ) (geometry : GeometryView) (history : BusHistory) → history.geometry ≡ geometry → NothingWritten history →
+    NodesAreMade geometry [] history.written → IsConsistent tag_of geometry history [] []
+new_consistent tag_of geometry history same empty nodes = record {
+  bus_geometry = same;
   paired = no_pairs;
   long = λ line counter cipher has. absurd (omega (arith, has.1));
-  sealed = record { holds = λ line inside. inl (empty.zeros (line_place line) (subst (λ (l : ℕ). line < line_count l) (sym same) inside)) };
+  sealed = record { holds = λ line inside. inl (empty.zeros (line_place line) (subst (λ (l : GeometryView). line < line_count l) (sym same) inside)) };
   nodes = nodes;
 }
 
@@ -43,9 +43,9 @@ new_last : (tag_of : Message → List ℕ) (lines : ℕ) (history : BusHistory) 
 unfolding last_at
 new_last tag_of lines history = record { holds = λ line counter cipher inside last. absurd (cc) }
 
-new_rise : (levels limit : ℕ) → CountersRise levels limit [] None
+new_rise : (geometry : GeometryView) (limit : ℕ) → CountersRise geometry limit [] None
 unfolding last_at
-new_rise levels limit = record {
+new_rise geometry limit = record {
   rising = record { rise = λ first second line counter later before at after. absurd (cc) };
   within = record {
     started = λ line counter has. absurd (omega (arith, has.1));
@@ -57,26 +57,26 @@ new_rise levels limit = record {
   spent = λ page is. absurd (cc);
 }
 
-empty_nodes : (levels : ℕ) (history : BusHistory) → history.levels ≡ levels → NothingWritten history → NodesAreMade levels [] history.written
-empty_nodes levels history same empty = record {
-  holds = λ level index inside. inl (empty.zeros (node_place level index) (subst (λ (l : ℕ). IsNode l level index) (sym same) inside));
+empty_nodes : (geometry : GeometryView) (history : BusHistory) → history.geometry ≡ geometry → NothingWritten history → NodesAreMade geometry [] history.written
+empty_nodes geometry history same empty = record {
+  holds = λ level index inside. inl (empty.zeros (node_place level index) (subst (λ (l : GeometryView). IsNode l level index) (sym same) inside));
 }
 
-new_nodes : (levels : ℕ) (history : BusHistory) → NodesHoldLast levels [] history.written
+new_nodes : (geometry : GeometryView) (history : BusHistory) → NodesHoldLast geometry [] history.written
 unfolding last_at
-new_nodes levels history = record { holds = λ level index block inside last. absurd (cc) }
+new_nodes geometry history = record { holds = λ level index block inside last. absurd (cc) }
 
-new_said : (tag_of : Message → List ℕ) (levels : ℕ) → NodesSay tag_of levels [] []
-new_said tag_of levels = record {
-  slots = slots_none tag_of levels;
+new_said : (tag_of : Message → List ℕ) (geometry : GeometryView) → NodesSay tag_of geometry [] []
+new_said tag_of geometry = record {
+  slots = slots_none tag_of geometry;
   blocks = record { said = λ page line block listed of_page. absurd (omega (arith, listed.1)) };
 }
 
-module _ {B T : Type 0} (d n : T → List ℕ → List ℕ) (history : B → BusHistory) (bus_moved : B → B → Type 0) (bus : B) (tagger : T) (key : List ℕ) (levels limit : ℕ)
-    (engine : TagEngineView T) (pads : PadEngineView) (counters : CountersView) (new : engine ≡ new_engine tagger levels) (unused : pads ≡ new_pads key)
-    (same : (history bus).levels ≡ levels) (empty : NothingWritten (history bus)) (tree_levels : counters.tree.levels ≡ levels)
+module _ {B T : Type 0} (d n : T → List ℕ → List ℕ) (history : B → BusHistory) (bus_moved : B → B → Type 0) (bus : B) (tagger : T) (key : List ℕ) (geometry : GeometryView) (limit : ℕ)
+    (engine : TagEngineView T) (pads : PadEngineView) (counters : CountersView) (new : engine ≡ new_engine tagger geometry) (unused : pads ≡ new_pads key)
+    (same : (history bus).geometry ≡ geometry) (empty : NothingWritten (history bus)) (tree_geometry : counters.tree.geometry ≡ geometry)
     (holds : HoldsCounters (tags_of d n) counters (history bus) engine)
-    (zeros : (page : ℕ) → page < page_count levels → counters_in counters engine.made page ≡ new_block) (uncached : cached_pages counters ≡ []) where
+    (zeros : (page : ℕ) → page < page_count geometry → counters_in counters engine.made page ≡ new_block) (uncached : cached_pages counters ≡ []) where
   abbrev begun : SealedLinesView B T
   begun = record { bus = bus; engine = engine; pads = pads; counters = counters; limit = limit; stopped = None }
 
@@ -86,39 +86,39 @@ module _ {B T : Type 0} (d n : T → List ℕ → List ℕ) (history : B → Bus
   no_messages : engine.made ≡ []
   no_messages = ap (λ (e : TagEngineView T). e.made) new
 
-  levels_are : engine.levels ≡ levels
-  levels_are = ap (λ (e : TagEngineView T). e.levels) new
+  geometry_are : engine.geometry ≡ geometry
+  geometry_are = ap (λ (e : TagEngineView T). e.geometry) new
 
   no_entries : pads.used ≡ []
   no_entries = ap (λ (p : PadEngineView). p.used) unused
 
-  history_levels : (history bus).levels ≡ engine.levels
-  history_levels = same ∙ sym levels_are
+  history_geometry : (history bus).geometry ≡ engine.geometry
+  history_geometry = same ∙ sym geometry_are
 
-  consistent : IsConsistent tag_of engine.levels (history bus) engine.made pads.used
+  consistent : IsConsistent tag_of engine.geometry (history bus) engine.made pads.used
   consistent =
-      subst (λ (made : List Message). IsConsistent tag_of engine.levels (history bus) made pads.used) (sym no_messages)
-      (subst (λ (u : List (ℕ × Counter)). IsConsistent tag_of engine.levels (history bus) [] u) (sym no_entries)
-      (new_consistent tag_of engine.levels (history bus) history_levels empty (empty_nodes engine.levels (history bus) history_levels empty)))
+      subst (λ (made : List Message). IsConsistent tag_of engine.geometry (history bus) made pads.used) (sym no_messages)
+      (subst (λ (u : List (ℕ × Counter)). IsConsistent tag_of engine.geometry (history bus) [] u) (sym no_entries)
+      (new_consistent tag_of engine.geometry (history bus) history_geometry empty (empty_nodes engine.geometry (history bus) history_geometry empty)))
 
-  says : (page : ℕ) → page < page_count engine.levels → IsOfPage pads.used page (counters_in counters engine.made page)
+  says : (page : ℕ) → page < page_count engine.geometry → IsOfPage pads.used page (counters_in counters engine.made page)
   says page inside =
       subst (λ (u : List (ℕ × Counter)). IsOfPage u page (counters_in counters engine.made page)) (sym no_entries)
-      (new_says (counters_in counters engine.made page) page (zeros page (subst (λ (l : ℕ). page < page_count l) levels_are inside)))
+      (new_says (counters_in counters engine.made page) page (zeros page (subst (λ (l : GeometryView). page < page_count l) geometry_are inside)))
 
-  no_pages : AreOfPages engine.levels counters
+  no_pages : AreOfPages engine.geometry counters
   no_pages = λ page cached.
       let listed : Contains [] page = subst (λ (pages : List ℕ). Contains pages page) uncached cached in
       absurd (omega (arith, listed.1))
 
   pub boot_protected : AreProtected d n history begun
   boot_protected =
-      protected_after d n history bus_moved begun (record { bus = bus; engine = engine; pads = pads }) counters None refl refl (tree_levels ∙ sym levels_are)
+      protected_after d n history bus_moved begun (record { bus = bus; engine = engine; pads = pads }) counters None refl refl (tree_geometry ∙ sym geometry_are)
       no_pages consistent
-      (λ goes_on. subst (λ (made : List Message). HoldsLast tag_of (line_count engine.levels) made (history bus).written) (sym no_messages)
-      (new_last tag_of (line_count engine.levels) (history bus)))
-      (λ goes_on. subst (λ (made : List Message). NodesHoldLast engine.levels made (history bus).written) (sym no_messages) (new_nodes engine.levels (history bus)))
-      (λ still. subst (λ (u : List (ℕ × Counter)). CountersRise engine.levels limit u None) (sym no_entries) (new_rise engine.levels limit))
-      (λ still. subst (NodesSay tag_of engine.levels pads.used) (sym no_messages)
-      (subst (λ (u : List (ℕ × Counter)). NodesSay tag_of engine.levels u []) (sym no_entries) (new_said tag_of engine.levels)))
+      (λ goes_on. subst (λ (made : List Message). HoldsLast tag_of (line_count engine.geometry) made (history bus).written) (sym no_messages)
+      (new_last tag_of (line_count engine.geometry) (history bus)))
+      (λ goes_on. subst (λ (made : List Message). NodesHoldLast engine.geometry made (history bus).written) (sym no_messages) (new_nodes engine.geometry (history bus)))
+      (λ still. subst (λ (u : List (ℕ × Counter)). CountersRise engine.geometry limit u None) (sym no_entries) (new_rise engine.geometry limit))
+      (λ still. subst (NodesSay tag_of engine.geometry pads.used) (sym no_messages)
+      (subst (λ (u : List (ℕ × Counter)). NodesSay tag_of engine.geometry u []) (sym no_entries) (new_said tag_of engine.geometry)))
       (λ goes_on. record { tree = record { fits = holds.tree.fits }; clean = holds.clean }) (λ goes_on still. says)

@@ -9,7 +9,7 @@ use Rattle.sec_base.specs.declared.message.Message.TheVariants.{Line, Node}
 use Rattle.sec_base.specs.declared.place.Place.TheVariants.{Line as line_place}
 use Rattle.sec_base.specs.declared.stop.MemStop.{MemStop}
 use Rattle.sec_base.specs.declared.stop.MemStop.TheVariants.{NoMemory}
-use Rattle.sec_base.specs.Geometry.{line_count}
+use Rattle.sec_base.specs.Geometry.{GeometryView, line_count}
 use Rattle.sec_base.specs.LastMessage.{data_pairs, data_part, last_data}
 use Rattle.sec_base.specs.Place.{zeros_of}
 use Rattle.sec_base.proofs.LastMessages.{last_of_other}
@@ -92,15 +92,15 @@ module _ (tag_of : Message → List ℕ) (old new : BusHistory) (made made' : Li
         lines.written line ∙ was.holds line counter cipher inside (sym (same_last_data old new made made' line lines) ∙ last);
   }
 
-  nodes_consistent : (levels : ℕ) (used : List (ℕ × Counter)) → IsConsistent tag_of levels old made used → new.levels ≡ old.levels →
-      NodesAreMade levels made' new.written → IsConsistent tag_of levels new made' used
-  nodes_consistent levels used kept same nodes = record {
-    bus_levels = same ∙ kept.bus_levels;
+  nodes_consistent : (geometry : GeometryView) (used : List (ℕ × Counter)) → IsConsistent tag_of geometry old made used → new.geometry ≡ old.geometry →
+      NodesAreMade geometry made' new.written → IsConsistent tag_of geometry new made' used
+  nodes_consistent geometry used kept same nodes = record {
+    bus_geometry = same ∙ kept.bus_geometry;
     paired = same_pairs old new made made' lines ∙ kept.paired;
     long = λ line counter cipher listed.
         kept.long line counter cipher (line_before made lines.more line counter cipher lines.no_lines
         (subst (λ (m : List Message). Contains m (Line line counter cipher)) lines.made_more listed));
-    sealed = holds_still (line_count levels) used kept.sealed;
+    sealed = holds_still (line_count geometry) used kept.sealed;
     nodes = nodes;
   }
 
@@ -112,19 +112,19 @@ module _ {B T : Type 0} (history : B → BusHistory) (moved : B → B → Type 0
   abbrev new : OutsideView B T
   new = record { bus = bus; engine = engine; pads = old.pads }
 
-  pub node_step : (tree : TreeView) (stop : Option MemStop) → tree.levels ≡ old.engine.levels →
+  pub node_step : (tree : TreeView) (stop : Option MemStop) → tree.geometry ≡ old.engine.geometry →
       AreConsistent terms old → HaveLast terms old → HaveLastNodes terms old → moved old.bus bus →
       StepMoves (history old.bus) old.engine (history bus) engine →
       SameLines (history old.bus) old.engine.made (history bus) engine.made →
       ((more : List Message) → engine.made ≡ old.engine.made ++ more → WritesMessages (history old.bus) (history bus) (length more) (unwritten_in stop)) →
-      (NodesAreMade tree.levels old.engine.made (history old.bus).written → NodesAreMade tree.levels engine.made (history bus).written) →
-      (NodesHoldLast tree.levels old.engine.made (history old.bus).written → stop ≢ Some NoMemory → NodesHoldLast tree.levels engine.made (history bus).written) →
+      (NodesAreMade tree.geometry old.engine.made (history old.bus).written → NodesAreMade tree.geometry engine.made (history bus).written) →
+      (NodesHoldLast tree.geometry old.engine.made (history old.bus).written → stop ≢ Some NoMemory → NodesHoldLast tree.geometry engine.made (history bus).written) →
       IsNodeStep terms old new stop
-  node_step tree stop levels kept last nodes went moves lines writes made_blocks last_blocks = record {
+  node_step tree stop geometry kept last nodes went moves lines writes made_blocks last_blocks = record {
     bus = went;
     step = record {
-      bus_levels = moves.bus_levels;
-      levels = moves.levels;
+      bus_geometry = moves.bus_geometry;
+      geometry = moves.geometry;
       tagger = moves.tagger;
       more = lines.more;
       made = lines.made_more;
@@ -138,25 +138,25 @@ module _ {B T : Type 0} (history : B → BusHistory) (moved : B → B → Type 0
     used = refl;
     key = refl;
     writes = writes lines.more lines.made_more;
-    consistent = nodes_consistent terms.tag_of (history old.bus) (history bus) old.engine.made engine.made lines old.engine.levels old.pads.used kept moves.bus_levels
-        (subst (λ (l : ℕ). NodesAreMade l engine.made (history bus).written) levels
-        (made_blocks (subst (λ (l : ℕ). NodesAreMade l old.engine.made (history old.bus).written) (sym levels) kept.nodes)));
-    holds_last = lines_last terms.tag_of (history old.bus) (history bus) old.engine.made engine.made lines (line_count old.engine.levels) last;
+    consistent = nodes_consistent terms.tag_of (history old.bus) (history bus) old.engine.made engine.made lines old.engine.geometry old.pads.used kept moves.bus_geometry
+        (subst (λ (l : GeometryView). NodesAreMade l engine.made (history bus).written) geometry
+        (made_blocks (subst (λ (l : GeometryView). NodesAreMade l old.engine.made (history old.bus).written) (sym geometry) kept.nodes)));
+    holds_last = lines_last terms.tag_of (history old.bus) (history bus) old.engine.made engine.made lines (line_count old.engine.geometry) last;
     nodes_hold_last = λ goes_on.
-        subst (λ (l : ℕ). NodesHoldLast l engine.made (history bus).written) levels
-        (last_blocks (subst (λ (l : ℕ). NodesHoldLast l old.engine.made (history old.bus).written) (sym levels) nodes) goes_on);
+        subst (λ (l : GeometryView). NodesHoldLast l engine.made (history bus).written) geometry
+        (last_blocks (subst (λ (l : GeometryView). NodesHoldLast l old.engine.made (history old.bus).written) (sym geometry) nodes) goes_on);
   }
 
   -- the counters still fit, or there is evidence
   pub fits_before : (counters : CountersView) → CountersFit terms old counters → HoldsCounters (tags_of d n) counters (history old.bus) old.engine
   fits_before counters was = record { tree = record { fits = was.tree.fits }; clean = was.clean }
 
-  pub fits_after : (counters : CountersView) → engine.tagger ≡ old.engine.tagger → engine.levels ≡ old.engine.levels →
+  pub fits_after : (counters : CountersView) → engine.tagger ≡ old.engine.tagger → engine.geometry ≡ old.engine.geometry →
       HoldsCounters (tags_of d n) counters (history bus) engine → CountersFit terms new counters
-  fits_after counters tagger levels holds = record {
+  fits_after counters tagger geometry holds = record {
     tree = record {
       fits = λ quiet.
-          subst (λ (t : Message → List ℕ). IsTree t counters.tree engine.made (history bus).written) (same_tags d n old.engine engine tagger levels)
+          subst (λ (t : Message → List ℕ). IsTree t counters.tree engine.made (history bus).written) (same_tags d n old.engine engine tagger geometry)
           (holds.tree.fits quiet);
     };
     clean = holds.clean;

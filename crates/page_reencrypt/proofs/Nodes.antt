@@ -6,7 +6,7 @@ use Rattle.sec_base.specs.declared.message.Message.{Message}
 use Rattle.sec_base.specs.declared.message.Message.TheVariants.{Line, Node}
 use Rattle.sec_base.specs.declared.place.Place.{Place}
 use Rattle.sec_base.specs.declared.place.Place.TheVariants.{Line as line_place, Node as node_place}
-use Rattle.sec_base.specs.Geometry.{parent, slot}
+use Rattle.sec_base.specs.Geometry.{GeometryView, parent, slot}
 use Rattle.sec_base.specs.LastMessage.{data_pairs, last_node, node_part}
 use Rattle.sec_base.specs.Place.{at_place, zeros_of}
 use Rattle.sec_base.proofs.LastMessages.{last_of_other}
@@ -32,9 +32,9 @@ node_there line bytes written level index =
     at_place-there (line_place line) (node_place level index) bytes written apart
 
 -- What was made for nodes still was, where more is made and their places hold what they held.
-pub nodes_more : (levels : ℕ) (made more : List Message) (written written' : Place → List ℕ) → NodesAreMade levels made written →
-    ((level index : ℕ) → written' (node_place level index) ≡ written (node_place level index)) → NodesAreMade levels (made ++ more) written'
-nodes_more levels made more written written' was same = record {
+pub nodes_more : (geometry : GeometryView) (made more : List Message) (written written' : Place → List ℕ) → NodesAreMade geometry made written →
+    ((level index : ℕ) → written' (node_place level index) ≡ written (node_place level index)) → NodesAreMade geometry (made ++ more) written'
+nodes_more geometry made more written written' was same = record {
   holds = λ level index inside.
       subst (λ (bytes : List ℕ). (bytes ≡ zeros_of (node_place level index)) ⊎ Contains (made ++ more) (Node level index bytes)) (sym (same level index))
       (elim (was.holds level index inside) [
@@ -44,10 +44,10 @@ nodes_more levels made more written written' was same = record {
 }
 
 -- The last blocks stand at their places still, where these and those are the same.
-pub nodes_last : (levels : ℕ) (made made' : List Message) (written written' : Place → List ℕ) → NodesHoldLast levels made written →
+pub nodes_last : (geometry : GeometryView) (made made' : List Message) (written written' : Place → List ℕ) → NodesHoldLast geometry made written →
     ((level index : ℕ) → written' (node_place level index) ≡ written (node_place level index)) →
-    ((level index : ℕ) → last_node level index made' ≡ last_node level index made) → NodesHoldLast levels made' written'
-nodes_last levels made made' written written' was same last = record {
+    ((level index : ℕ) → last_node level index made' ≡ last_node level index made) → NodesHoldLast geometry made' written'
+nodes_last geometry made made' written written' was same last = record {
   holds = λ level index block inside is. same level index ∙ was.holds level index block inside (sym (last level index) ∙ is);
 }
 
@@ -60,8 +60,8 @@ module _ (tag_of : Message → List ℕ) (tree : TreeView) (made made' : List Me
 
   kept_same : (level index : ℕ) → kept_tag tree made' level index ≡ kept_tag tree made level index
   kept_same level index =
-      ap (λ (block : List ℕ). cond (nat_lt level tree.levels) (tag_in_slot (slot tree.levels index) block) tree.root)
-      (block_same (parent tree.levels level index).0 (parent tree.levels level index).1)
+      ap (λ (block : List ℕ). cond (nat_lt level tree.geometry.levels) (tag_in_slot tree.geometry (slot tree.geometry index) block) tree.root)
+      (block_same (parent tree.geometry level index).0 (parent tree.geometry level index).1)
 
   pub tree_same : IsTree tag_of tree made written → IsTree tag_of tree made' written'
   tree_same was = record {
@@ -90,9 +90,9 @@ pub counters_same : (counters : CountersView) (made made' : List Message) (page 
 counters_same counters made made' page last = ap (λ (l : Option (List ℕ)). block_of (current_of (cached_block counters page) l)) last
 
 -- The place of a line is none that is read to have a page's counters.
-pub not_node : {P : Type 0} (levels page at : ℕ) → IsFetchPlace levels page (line_place at) → P
-not_node levels page at (inl own) = let here : line_place at ≡ node_place 0 page = own in absurd (cc)
-not_node levels page at (inr from) = let here : line_place at ≡ node_place from.level from.index = from.place_is in absurd (cc)
+pub not_node : {P : Type 0} (geometry : GeometryView) (page at : ℕ) → IsFetchPlace geometry page (line_place at) → P
+not_node geometry page at (inl own) = let here : line_place at ≡ node_place 0 page = own in absurd (cc)
+not_node geometry page at (inr from) = let here : line_place at ≡ node_place from.level from.index = from.place_is in absurd (cc)
 
 -- Messages without lines
 

@@ -70,15 +70,15 @@ came_more page first second third made counters counters' a more = record {
       ];
   nodes = λ level index copied. record {
     rose = λ up inside none.
-        came_before made (level + up) (above counters.tree.levels index up) first second third more ((a.nodes level index copied).rose up inside none);
+        came_before made (level + up) (above counters.tree.geometry index up) first second third more ((a.nodes level index copied).rose up inside none);
   };
 }
 
 came_on : {T : Type 0} (page : ℕ) (first second third : BusHistory) (engine engine' engine'' : TagEngineView T) (counters counters' counters'' : CountersView) →
-    counters'.tree.levels ≡ counters.tree.levels → StepMoves first engine second engine' → StepMoves second engine' third engine'' →
+    counters'.tree.geometry ≡ counters.tree.geometry → StepMoves first engine second engine' → StepMoves second engine' third engine'' →
     CopiesCame page first engine.made counters second counters' → CopiesCame page second engine'.made counters' third counters'' →
     CopiesCame page first engine.made counters third counters''
-came_on page first second third engine engine' engine'' counters counters' counters'' levels step more a b =
+came_on page first second third engine engine' engine'' counters counters' counters'' geometry step more a b =
     let unmade : (level index : ℕ) → last_node level index engine'.made ≡ None → last_node level index engine.made ≡ None =
     unmade_before engine.made engine'.made step.more step.made in
     record {
@@ -88,7 +88,7 @@ came_on page first second third engine engine' engine'' counters counters' count
             | inr own ↦ inr (own.0, came_after engine.made engine'.made 0 page first second third step.reads (unmade 0 page) own.1)
           ];
       nodes = λ level index copied.
-          read_up_on counters.tree counters'.tree engine.made engine'.made level index first second third levels step.reads more.reads unmade a.nodes
+          read_up_on counters.tree counters'.tree engine.made engine'.made level index first second third geometry step.reads more.reads unmade a.nodes
           (b.nodes level index copied);
     }
 
@@ -97,14 +97,14 @@ pub path_more : (tree : TreeView) (made : List Message) (page : ℕ) (first seco
     ((place : Place) → RoseBy 0 (second.reads place) (third.reads place)) → PathWasRead tree made 0 page first second → PathWasRead tree made 0 page first third
 path_more tree made page first second third more path = record {
   rose = λ level above inside uncached.
-      came_before made level (path_index tree.levels level page) first second third more (path.rose level above inside uncached);
+      came_before made level (path_index tree.geometry level page) first second third more (path.rose level above inside uncached);
 }
 
 module _ {B T : Type 0} (terms : MemoryTerms B) where
   -- The memory outside after steps over the nodes, with its counters.
   pub record IsReached (old : OutsideView B T) (counters : CountersView) (new : OutsideView B T) (counters' : CountersView) (stop : Option MemStop) : Type 0 where
     pub node : IsNodeStep terms old new stop
-    pub levels : counters'.tree.levels ≡ counters.tree.levels
+    pub geometry : counters'.tree.geometry ≡ counters.tree.geometry
     pub fits : lasting_stop stop ≡ None → CountersFit terms new counters'
     pub accounted : AreAccounted terms old None → AreAccounted terms new stop
     pub shows : ShowsLies terms old new
@@ -140,18 +140,18 @@ module _ {B T : Type 0} (terms : MemoryTerms B) where
       (λ level index. ap (λ (h : BusHistory). h.reads (node_place level index)) same) (λ level index. ap (last_node level index) made)
 
   -- and then came more
-  pub come_on : (page : ℕ) (first second third : OutsideView B T) (counters counters' counters'' : CountersView) → counters'.tree.levels ≡ counters.tree.levels →
+  pub come_on : (page : ℕ) (first second third : OutsideView B T) (counters counters' counters'' : CountersView) → counters'.tree.geometry ≡ counters.tree.geometry →
       StepMoves (terms.history first.bus) first.engine (terms.history second.bus) second.engine →
       StepMoves (terms.history second.bus) second.engine (terms.history third.bus) third.engine →
       HasCome page first counters second counters' → HasCome page second counters' third counters'' → HasCome page first counters third counters''
-  come_on page first second third counters counters' counters'' levels step more a b =
+  come_on page first second third counters counters' counters'' geometry step more a b =
       let was_quiet : third.engine.evidence ≡ None → second.engine.evidence ≡ None =
       λ quiet. was_none second.engine.evidence third.engine.evidence more.evidence quiet in
       record {
         few = few_on counters counters' counters'' a.few b.few;
         copies = λ quiet.
             came_on page (terms.history first.bus) (terms.history second.bus) (terms.history third.bus) first.engine second.engine third.engine
-            counters counters' counters'' levels step more (a.copies (was_quiet quiet)) (b.copies quiet);
+            counters counters' counters'' geometry step more (a.copies (was_quiet quiet)) (b.copies quiet);
         unread = λ quiet level index none.
             b.unread quiet level index none
             ∙ a.unread (was_quiet quiet) level index (unmade_before second.engine.made third.engine.made more.more more.made level index none);
@@ -165,8 +165,8 @@ module _ {B T : Type 0} (terms : MemoryTerms B) where
       record {
         bus = moved_on first.bus second.bus third.bus a.bus b.bus;
         step = record {
-          bus_levels = step.bus_levels;
-          levels = step.levels;
+          bus_geometry = step.bus_geometry;
+          geometry = step.geometry;
           tagger = step.tagger;
           more = a.step.more ++ b.step.more;
           made = b.step.made ∙ ap (λ (made : List Message). made ++ b.step.more) a.step.made ∙ append_assoc first.engine.made a.step.more b.step.more;
@@ -183,7 +183,7 @@ module _ {B T : Type 0} (terms : MemoryTerms B) where
         writes = subst (λ (messages : ℕ). WritesMessages (terms.history first.bus) (terms.history third.bus) messages (unwritten_in stop))
             (sym (length-append a.step.more b.step.more))
             (writes_on (terms.history first.bus) (terms.history second.bus) (terms.history third.bus) (length a.step.more) (length b.step.more) (unwritten_in stop)
-            b.step.bus_levels b.step.reads b.step.accesses a.writes b.writes);
+            b.step.bus_geometry b.step.reads b.step.accesses a.writes b.writes);
         consistent = b.consistent;
         holds_last = b.holds_last;
         nodes_hold_last = b.nodes_hold_last;
@@ -207,7 +207,7 @@ module _ {B T : Type 0} (terms : MemoryTerms B) where
       IsReached first counters second counters' None → IsReached second counters' third counters'' stop → IsReached first counters third counters'' stop
   reached_on moved_on first second third counters counters' counters'' stop a b = record {
     node = node_step_on moved_on first second third stop a.node b.node;
-    levels = b.levels ∙ a.levels;
+    geometry = b.geometry ∙ a.geometry;
     fits = b.fits;
     accounted = λ was. b.accounted (a.accounted was);
     shows = shows_on first second third a.node.step b.node.step a.shows b.shows;
@@ -226,8 +226,8 @@ module _ {B T : Type 0} (terms : MemoryTerms B) where
         node = record {
           bus = unmoved;
           step = record {
-            bus_levels = refl;
-            levels = refl;
+            bus_geometry = refl;
+            geometry = refl;
             tagger = refl;
             more = [];
             made = sym (append-nil old.engine.made);
@@ -241,25 +241,25 @@ module _ {B T : Type 0} (terms : MemoryTerms B) where
           used = used;
           key = key;
           writes = writes_none (terms.history old.bus) (unwritten_in stop);
-          consistent = subst (IsConsistent terms.tag_of terms.levels (terms.history old.bus) old.engine.made) (sym used) kept;
+          consistent = subst (IsConsistent terms.tag_of terms.geometry (terms.history old.bus) old.engine.made) (sym used) kept;
           holds_last = last;
           nodes_hold_last = λ goes_on. nodes;
         };
-        levels = refl;
+        geometry = refl;
         fits = λ going. record { tree = record { fits = fits.tree.fits }; clean = fits.clean };
         accounted = λ was.
             subst (λ (u : List (ℕ × Counter)). IsAccounted terms.tag_of u old.engine.made (terms.history old.bus) stop old.engine.evidence) (sym used)
             (other_stop terms.tag_of old.pads.used old.engine.made (terms.history old.bus) None stop old.engine.evidence (λ place is. cc) untampered was);
         shows = λ quiet. inl quiet;
-        nodes = λ quiet was. subst (λ (u : List (ℕ × Counter)). NodesSay terms.tag_of terms.levels u old.engine.made) (sym used) was;
+        nodes = λ quiet was. subst (λ (u : List (ℕ × Counter)). NodesSay terms.tag_of terms.geometry u old.engine.made) (sym used) was;
       })
 
   -- counters were counted up on the chip
   pub reached_idle : (old : OutsideView B T) (counters : CountersView) (new : OutsideView B T) (counters' : CountersView) → terms.moved old.bus new.bus →
       AreConsistent terms old → HaveLast terms old → HaveLastNodes terms old →
       (same : terms.history new.bus ≡ terms.history old.bus) (engine : new.engine ≡ old.engine) (pads : new.pads ≡ old.pads) →
-      counters'.tree.levels ≡ counters.tree.levels → CountersFit terms new counters' → IsReached old counters new counters' None
-  reached_idle old counters new counters' went kept last nodes same engine pads levels fits =
+      counters'.tree.geometry ≡ counters.tree.geometry → CountersFit terms new counters' → IsReached old counters new counters' None
+  reached_idle old counters new counters' went kept last nodes same engine pads geometry fits =
       let written : (terms.history new.bus).written ≡ (terms.history old.bus).written = ap (λ (h : BusHistory). h.written) same in
       let made : new.engine.made ≡ old.engine.made = ap (λ (e : TagEngineView T). e.made) engine in
       let used : new.pads.used ≡ old.pads.used = ap (λ (p : PadEngineView). p.used) pads in
@@ -267,8 +267,8 @@ module _ {B T : Type 0} (terms : MemoryTerms B) where
         node = record {
           bus = went;
           step = record {
-            bus_levels = ap (λ (h : BusHistory). h.levels) same;
-            levels = ap (λ (e : TagEngineView T). e.levels) engine;
+            bus_geometry = ap (λ (h : BusHistory). h.geometry) same;
+            geometry = ap (λ (e : TagEngineView T). e.geometry) engine;
             tagger = ap (λ (e : TagEngineView T). e.tagger) engine;
             more = [];
             made = made ∙ sym (append-nil old.engine.made);
@@ -283,15 +283,15 @@ module _ {B T : Type 0} (terms : MemoryTerms B) where
           used = used;
           key = ap (λ (p : PadEngineView). p.key) pads;
           writes = subst (λ (h : BusHistory). WritesMessages (terms.history old.bus) h 0 0) (sym same) (writes_none (terms.history old.bus) 0);
-          consistent = subst (λ (h : BusHistory). IsConsistent terms.tag_of terms.levels h new.engine.made new.pads.used) (sym same)
-              (subst (λ (m : List Message). IsConsistent terms.tag_of terms.levels (terms.history old.bus) m new.pads.used) (sym made)
-              (subst (IsConsistent terms.tag_of terms.levels (terms.history old.bus) old.engine.made) (sym used) kept));
-          holds_last = subst (HoldsLast terms.tag_of (line_count terms.levels) new.engine.made) (sym written)
-              (subst (λ (m : List Message). HoldsLast terms.tag_of (line_count terms.levels) m (terms.history old.bus).written) (sym made) last);
-          nodes_hold_last = λ goes_on. subst (NodesHoldLast terms.levels new.engine.made) (sym written)
-              (subst (λ (m : List Message). NodesHoldLast terms.levels m (terms.history old.bus).written) (sym made) nodes);
+          consistent = subst (λ (h : BusHistory). IsConsistent terms.tag_of terms.geometry h new.engine.made new.pads.used) (sym same)
+              (subst (λ (m : List Message). IsConsistent terms.tag_of terms.geometry (terms.history old.bus) m new.pads.used) (sym made)
+              (subst (IsConsistent terms.tag_of terms.geometry (terms.history old.bus) old.engine.made) (sym used) kept));
+          holds_last = subst (HoldsLast terms.tag_of (line_count terms.geometry) new.engine.made) (sym written)
+              (subst (λ (m : List Message). HoldsLast terms.tag_of (line_count terms.geometry) m (terms.history old.bus).written) (sym made) last);
+          nodes_hold_last = λ goes_on. subst (NodesHoldLast terms.geometry new.engine.made) (sym written)
+              (subst (λ (m : List Message). NodesHoldLast terms.geometry m (terms.history old.bus).written) (sym made) nodes);
         };
-        levels = levels;
+        geometry = geometry;
         fits = λ going. fits;
         accounted = λ was.
             subst (λ (h : BusHistory). IsAccounted terms.tag_of new.pads.used new.engine.made h None new.engine.evidence) (sym same)
@@ -299,8 +299,8 @@ module _ {B T : Type 0} (terms : MemoryTerms B) where
             (subst (λ (u : List (ℕ × Counter)). IsAccounted terms.tag_of u old.engine.made (terms.history old.bus) None old.engine.evidence) (sym used) was));
         shows = λ quiet. inl (ap (λ (e : TagEngineView T). e.evidence) engine ∙ quiet);
         nodes = λ quiet was.
-            subst (NodesSay terms.tag_of terms.levels new.pads.used) (sym made)
-            (subst (λ (u : List (ℕ × Counter)). NodesSay terms.tag_of terms.levels u old.engine.made) (sym used) was);
+            subst (NodesSay terms.tag_of terms.geometry new.pads.used) (sym made)
+            (subst (λ (u : List (ℕ × Counter)). NodesSay terms.tag_of terms.geometry u old.engine.made) (sym used) was);
       }
 
   -- where it stands at the same messages and entries, it stopped as spent
@@ -319,7 +319,7 @@ module _ {B T : Type 0} (terms : MemoryTerms B) where
       holds_last = is.node.holds_last;
       nodes_hold_last = λ goes_on. is.node.nodes_hold_last (λ none. cc);
     };
-    levels = is.levels;
+    geometry = is.geometry;
     fits = λ going. is.fits refl;
     accounted = λ was.
         other_stop terms.tag_of new.pads.used new.engine.made (terms.history new.bus) None (Some (Spent page)) new.engine.evidence (λ place is. cc) (λ place is. cc)
@@ -346,17 +346,17 @@ module _ {B T : Type 0} (terms : MemoryTerms B) where
         (lasting_stop stop ≡ None → CountersSay terms new counters') →
         (new.engine.evidence ≡ None → SameCounters counters old.engine.made counters' new.engine.made)
         ⊎ ((64 ≤ new.pads.room) × (length old.engine.made + 64 ≤ length new.engine.made + new.engine.room)) →
-        ((place : Place) → stop ≡ Some (Tampered place) → IsFetchPlace terms.levels (page_of line) place
+        ((place : Place) → stop ≡ Some (Tampered place) → IsFetchPlace terms.geometry (page_of line) place
         × (old.engine.evidence ≡ None → Rose (terms.history old.bus).lies (terms.history new.bus).lies)) →
         ((page : ℕ) → stop ≡ Some (Spent page) → (page ≡ page_of line) × (new.engine.evidence ≡ None → counter_in old.pads.used line ≡ last_counter limit)) →
         (new.engine.evidence ≡ None → counter_in old.pads.used line ≡ last_counter limit →
         SameCounters counters old.engine.made counters' new.engine.made
-        × ((terms.history new.bus).accesses ≤ (terms.history old.bus).accesses + counter_accesses terms.levels)) →
+        × ((terms.history new.bus).accesses ≤ (terms.history old.bus).accesses + counter_accesses terms.geometry.levels)) →
         HasCome (page_of line) old counters new counters' → IsWrite terms limit line bytes old counters new counters' stop
     early_write limit line bytes rose stopped say reserved tampered spent used_up come = record {
       bus = reached.node.bus;
       step = reached.node.step;
-      levels = reached.levels;
+      geometry = reached.geometry;
       key = reached.node.key;
       writes = reached.node.writes;
       consistent = reached.node.consistent;
@@ -392,7 +392,7 @@ module _ {B T : Type 0} (terms : MemoryTerms B) where
       nodes = reached.nodes;
       lied = λ place is quiet. (tampered place is).1 quiet;
       tampered = λ place is. inl (tampered place is).0;
-      failed = λ other is. not_node terms.levels (page_of line) other (tampered (line_place other) is).0;
+      failed = λ other is. not_node terms.geometry (page_of line) other (tampered (line_place other) is).0;
       spent = λ page is. ((spent page is).0, refl, (spent page is).1);
       used_up = λ quiet last. (refl, stopped, (used_up quiet last).0, (used_up quiet last).1, λ place is. (tampered place is).0);
     }
@@ -408,8 +408,8 @@ module _ {B T : Type 0} (terms : MemoryTerms B) where
     whole_step =
         let step = step_on (terms.history old.bus) (terms.history mid.bus) (terms.history new.bus) old.engine mid.engine new.engine reached.node.step sealed.sealed.step in
         record {
-          bus_levels = step.bus_levels;
-          levels = step.levels;
+          bus_geometry = step.bus_geometry;
+          geometry = step.geometry;
           tagger = step.tagger;
           more = reached.node.step.more ++ sealed.sealed.step.more;
           made = sealed.sealed.step.made ∙ ap (λ (made : List Message). made ++ sealed.sealed.step.more) reached.node.step.made
@@ -425,7 +425,7 @@ module _ {B T : Type 0} (terms : MemoryTerms B) where
         subst (λ (messages : ℕ). WritesMessages (terms.history old.bus) (terms.history new.bus) messages (unwritten_in stop))
         (sym (length-append reached.node.step.more sealed.sealed.step.more))
         (writes_on (terms.history old.bus) (terms.history mid.bus) (terms.history new.bus) (length reached.node.step.more) (length sealed.sealed.step.more)
-        (unwritten_in stop) sealed.sealed.step.bus_levels sealed.sealed.step.reads sealed.sealed.step.accesses reached.node.writes
+        (unwritten_in stop) sealed.sealed.step.bus_geometry sealed.sealed.step.reads sealed.sealed.step.accesses reached.node.writes
         (record {
           writes = sealed.sealed.writes;
           counted = sealed.sealed.counted;
@@ -448,7 +448,7 @@ module _ {B T : Type 0} (terms : MemoryTerms B) where
 
     late_nodes : HaveLastNodes terms new
     late_nodes =
-        nodes_last terms.levels mid.engine.made new.engine.made (terms.history mid.bus).written (terms.history new.bus).written
+        nodes_last terms.geometry mid.engine.made new.engine.made (terms.history mid.bus).written (terms.history new.bus).written
         (reached.node.nodes_hold_last (λ is. cc)) sealed.sealed.nodes.written sealed.sealed.nodes.last
 
     -- messages of lines alone were made since
@@ -458,9 +458,9 @@ module _ {B T : Type 0} (terms : MemoryTerms B) where
         let pairs = ap length sealed.sealed.pairs in
         let mapped = length-map {A = ℕ} {B = ℕ × Counter} in
         omega (arith, pairs, mapped, sealed.sealed.as_many) in
-        subst (λ (u : List (ℕ × Counter)). NodesSay terms.tag_of terms.levels u new.engine.made) (sym sealed.sealed.entries)
-        (subst (NodesSay terms.tag_of terms.levels (mid.pads.used ++ map (λ at. (at, counter)) part)) (sym sealed.sealed.step.made)
-        (say_on terms.tag_of terms.levels mid.pads.used (map (λ at. (at, counter)) part) mid.engine.made sealed.sealed.step.more lines_alone
+        subst (λ (u : List (ℕ × Counter)). NodesSay terms.tag_of terms.geometry u new.engine.made) (sym sealed.sealed.entries)
+        (subst (NodesSay terms.tag_of terms.geometry (mid.pads.used ++ map (λ at. (at, counter)) part)) (sym sealed.sealed.step.made)
+        (say_on terms.tag_of terms.geometry mid.pads.used (map (λ at. (at, counter)) part) mid.engine.made sealed.sealed.step.more lines_alone
         (reached.nodes (late_quiet quiet) was)))
 
     -- and no node was read
@@ -485,7 +485,7 @@ module _ {B T : Type 0} (terms : MemoryTerms B) where
     late_write moved_on limit next below say entries_room room path overflow going come = record {
       bus = moved_on old.bus mid.bus new.bus reached.node.bus sealed.sealed.bus;
       step = whole_step;
-      levels = reached.levels;
+      geometry = reached.geometry;
       key = sealed.sealed.key ∙ reached.node.key;
       writes = late_writes;
       consistent = sealed.sealed.consistent;

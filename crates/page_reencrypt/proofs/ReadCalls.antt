@@ -7,7 +7,7 @@ use Rattle.sec_base.specs.declared.counter.Counter.{Counter}
 use Rattle.sec_base.specs.declared.message.Message.{Message}
 use Rattle.sec_base.specs.declared.stop.MemStop.{MemStop}
 use Rattle.sec_base.specs.declared.stop.MemStop.TheVariants.{NoMemory, Spent, Tampered}
-use Rattle.sec_base.specs.Geometry.{line_count, page_of}
+use Rattle.sec_base.specs.Geometry.{GeometryView, line_count, page_of}
 use Rattle.sec_base.specs.LastMessage.{data_pairs, last_data}
 use Rattle.sec_base.specs.Lines.{line_at}
 use Rattle.sec_base.proofs.JoinedLines.{joined_lines-same, line_at-joined_lines}
@@ -79,16 +79,16 @@ read_value key lines made line result inside is =
     (sym (line_at-joined_lines (line_bytes key made) lines line (length-line_bytes key made) inside)) is
 
 -- messages of nodes leave the contents
-pub contents_same : (key key' : List ℕ) (levels levels' : ℕ) (made more made' : List Message) → key' ≡ key → levels' ≡ levels → made' ≡ made ++ more →
-    data_pairs more ≡ [] → contents_of key' (line_count levels') made' ≡ contents_of key (line_count levels) made
-contents_same key key' levels levels' made more made' same_key same_levels grew none =
-    ap (λ (k : List ℕ). contents_of k (line_count levels') made') same_key
-    ∙ ap (λ (l : ℕ). contents_of key (line_count l) made') same_levels
-    ∙ joined_lines-same (line_bytes key made') (line_bytes key made) (line_count levels)
+pub contents_same : (key key' : List ℕ) (geometry : GeometryView) (geometry' : GeometryView) (made more made' : List Message) → key' ≡ key → geometry' ≡ geometry → made' ≡ made ++ more →
+    data_pairs more ≡ [] → contents_of key' (line_count geometry') made' ≡ contents_of key (line_count geometry) made
+contents_same key key' geometry geometry' made more made' same_key same_geometry grew none =
+    ap (λ (k : List ℕ). contents_of k (line_count geometry') made') same_key
+    ∙ ap (λ (l : GeometryView). contents_of key (line_count l) made') same_geometry
+    ∙ joined_lines-same (line_bytes key made') (line_bytes key made) (line_count geometry)
     (λ line inside. ap (bytes_of key line) (ap (last_data line) grew ∙ last_data-nodes made more line none))
 
 module _ {B T : Type 0} (d n : T → List ℕ → List ℕ) (history : B → BusHistory) (bus_moved : B → B → Type 0) (m : SealedLinesView B T) (line : ℕ)
-    (kept : AreProtected d n history m) (going : lasting_stop m.stopped ≡ None) (inside : line < line_count m.engine.levels)
+    (kept : AreProtected d n history m) (going : lasting_stop m.stopped ≡ None) (inside : line < line_count m.engine.geometry)
     (new : OutsideView B T) (counters : CountersView) (result : Result (List ℕ) MemStop)
     (r : IsLineRead (terms_of history bus_moved d n (outside_of m)) line (outside_of m) m.counters new counters result)
     (stopped : Option MemStop) (stops : stopped ≡ option_or (result_err result) m.stopped) where
@@ -114,17 +114,17 @@ module _ {B T : Type 0} (d n : T → List ℕ → List ℕ) (history : B → Bus
         | inr spent ↦ absurd (unspent spent.0 spent.1)
       ]
 
-  read_rises : new.engine.evidence ≡ None → CountersRise m.engine.levels m.limit new.pads.used stopped
+  read_rises : new.engine.evidence ≡ None → CountersRise m.engine.geometry m.limit new.pads.used stopped
   read_rises quiet =
       let was = kept.rise (was_quiet quiet) in
       record {
         rising = subst AreRising (sym same_used) was.rising;
-        within = subst (AreWithin (line_count m.engine.levels) m.limit) (sym same_used) was.within;
-        unskipped = subst (AreUnskipped (line_count m.engine.levels)) (sym same_used) was.unskipped;
-        paged = λ goes_on. subst (ArePaged (line_count m.engine.levels)) (sym same_used) (was.paged going);
+        within = subst (AreWithin (line_count m.engine.geometry) m.limit) (sym same_used) was.within;
+        unskipped = subst (AreUnskipped (line_count m.engine.geometry)) (sym same_used) was.unskipped;
+        paged = λ goes_on. subst (ArePaged (line_count m.engine.geometry)) (sym same_used) (was.paged going);
         spent = λ page is.
             elim (stop_spent m.stopped going (result_err result) page (sym stops ∙ is)) [
-              | inl before ↦ subst (λ (u : List (ℕ × Counter)). IsSpent (line_count m.engine.levels) m.limit u page) (sym same_used) (was.spent page before)
+              | inl before ↦ subst (λ (u : List (ℕ × Counter)). IsSpent (line_count m.engine.geometry) m.limit u page) (sym same_used) (was.spent page before)
               | inr now ↦ absurd (unspent page now)
             ];
       }
@@ -136,9 +136,9 @@ module _ {B T : Type 0} (d n : T → List ℕ → List ℕ) (history : B → Bus
       ∙ ap (counter_of (place_of other)) (sym (r.same quiet page))
 
   -- what held holds after it
-  pub read_kept : AreOfPages m.engine.levels counters → AreProtected d n history after
+  pub read_kept : AreOfPages m.engine.geometry counters → AreProtected d n history after
   read_kept pages =
-      protected_after d n history bus_moved m new counters stopped r.step.tagger r.step.levels (r.levels ∙ kept.tree_levels)
+      protected_after d n history bus_moved m new counters stopped r.step.tagger r.step.geometry (r.geometry ∙ kept.tree_geometry)
       pages r.consistent (λ goes_on. r.holds_last)
       (λ goes_on. r.nodes_hold_last (stop_memory m.stopped going (result_err result) (λ is. goes_on (stops ∙ is)))) read_rises
       (λ quiet. r.nodes quiet (kept.nodes (was_quiet quiet)))
@@ -146,8 +146,8 @@ module _ {B T : Type 0} (d n : T → List ℕ → List ℕ) (history : B → Bus
 
   pub read_contents : contents after ≡ contents m
   read_contents =
-      contents_same m.pads.key new.pads.key m.engine.levels new.engine.levels m.engine.made r.step.more new.engine.made
-      (ap (λ (p : PadEngineView). p.key) r.pads) r.step.levels r.step.made r.pairs
+      contents_same m.pads.key new.pads.key m.engine.geometry new.engine.geometry m.engine.made r.step.more new.engine.made
+      (ap (λ (p : PadEngineView). p.key) r.pads) r.step.geometry r.step.made r.pairs
 
   pub read_unsealed : IsUnsealed history m after
   read_unsealed = record {
@@ -159,7 +159,7 @@ module _ {B T : Type 0} (d n : T → List ℕ → List ℕ) (history : B → Bus
   }
 
   -- how it moves
-  pub read_moved : AreOfPages m.engine.levels counters → OnOk result (Contains (cached_pages counters) (page_of line)) →
+  pub read_moved : AreOfPages m.engine.geometry counters → OnOk result (Contains (cached_pages counters) (page_of line)) →
       ReadMoved history bus_moved (tags_of d n) m line result after
   read_moved pages cached = record {
     moves = record {
@@ -177,7 +177,7 @@ module _ {B T : Type 0} (d n : T → List ℕ → List ℕ) (history : B → Bus
       accounted = λ was.
           let before = none_before m.stopped going (tags_of d n m.engine) m.pads.used m.engine.made (history m.bus) m.engine.evidence was in
           subst (λ (t : Message → List ℕ). IsAccounted t new.pads.used new.engine.made (history new.bus) stopped new.engine.evidence)
-          (sym (same_tags d n m.engine new.engine r.step.tagger r.step.levels))
+          (sym (same_tags d n m.engine new.engine r.step.tagger r.step.geometry))
           (subst (λ (s : Option MemStop). IsAccounted (tags_of d n m.engine) new.pads.used new.engine.made (history new.bus) s new.engine.evidence) (sym stops)
           (stop_accounted m.stopped going (tags_of d n m.engine) new.pads.used new.engine.made (history new.bus) new.engine.evidence (result_err result)
           (r.accounted before)));
@@ -186,7 +186,7 @@ module _ {B T : Type 0} (d n : T → List ℕ → List ℕ) (history : B → Bus
       path = λ goes_on quiet uncached. r.path quiet (not_stopped goes_on) uncached;
       read = λ goes_on quiet.
           elim (r.rose quiet (not_stopped goes_on)) [
-            | inl fresh ↦ inl (last_none (line_count m.engine.levels) m.engine.made m.pads.used line kept.always.consistent.paired inside fresh)
+            | inl fresh ↦ inl (last_none (line_count m.engine.geometry) m.engine.made m.pads.used line kept.always.consistent.paired inside fresh)
             | inr rose ↦ inr rose
           ];
     };

@@ -13,7 +13,7 @@ use Rattle.sec_base.specs.declared.stop.MemStop.{MemStop}
 use Rattle.sec_base.specs.declared.stop.MemStop.TheVariants.{Tampered, Spent, NoMemory}
 use Rattle.sec_base.specs.Count.{Rose}
 use Rattle.sec_base.specs.Evidence.{evidence_place}
-use Rattle.sec_base.specs.Geometry.{line_count, page_of}
+use Rattle.sec_base.specs.Geometry.{GeometryView, line_count, page_of}
 use Rattle.sec_base.specs.LastMessage.{IsFresh, last_node}
 use Rattle.sec_base.proofs.Results.{if_ok, was_none}
 use Rattle.bus_model.specs.BusHistory.{BusHistory}
@@ -46,13 +46,13 @@ unfolding ok_value
 ok_same x y first second one two same = ap (ok_value x) (sym one ∙ same ∙ two)
 
 -- evidence of a line was found where a line was read
-pub before_line : (levels page at : ℕ) (counter : Counter) (sealed : Sealed) (made_count : ℕ) (before after : Option Evidence) →
-    ((evidence : Evidence) → before ≡ Some evidence → IsFetchPlace levels page (evidence_place evidence)) →
+pub before_line : (geometry : GeometryView) (page at : ℕ) (counter : Counter) (sealed : Sealed) (made_count : ℕ) (before after : Option Evidence) →
+    ((evidence : Evidence) → before ≡ Some evidence → IsFetchPlace geometry page (evidence_place evidence)) →
     ((evidence : Evidence) → before ≡ Some evidence → after ≡ Some evidence) → after ≡ Some (Forgery at counter sealed made_count) → before ≡ None
-before_line levels page at counter sealed made_count None after found stays is = refl
-before_line levels page at counter sealed made_count (Some evidence) after found stays is =
+before_line geometry page at counter sealed made_count None after found stays is = refl
+before_line geometry page at counter sealed made_count (Some evidence) after found stays is =
     let same : evidence ≡ Forgery at counter sealed made_count = same_Some evidence (Forgery at counter sealed made_count) (sym (stays evidence refl) ∙ is) in
-    not_node levels page at (subst (λ (e : Evidence). IsFetchPlace levels page (evidence_place e)) same (found evidence refl))
+    not_node geometry page at (subst (λ (e : Evidence). IsFetchPlace geometry page (evidence_place e)) same (found evidence refl))
 
 -- and that of a node before
 before_node : (level index made_at line : ℕ) (block tag : List ℕ) (before after : Option Evidence) →
@@ -84,18 +84,18 @@ module _ {B T : Type 0} (history : B → BusHistory) (moved : B → B → Type 0
 
   -- the counters were not had
   pub unread : (new : OutsideView B T) (counters' : CountersView) (why : MemStop) → IsReached terms old counters new counters' (Some why) → new.pads ≡ old.pads →
-      (history new.bus).accesses ≤ (history old.bus).accesses + counter_accesses old.engine.levels →
+      (history new.bus).accesses ≤ (history old.bus).accesses + counter_accesses old.engine.geometry.levels →
       (Contains (cached_pages counters) (page_of line) → (history new.bus).accesses ≡ (history old.bus).accesses) →
       (new.engine.evidence ≡ None → SameCounters counters old.engine.made counters' new.engine.made) →
-      ((evidence : Evidence) → old.engine.evidence ≡ None → new.engine.evidence ≡ Some evidence → IsFetchPlace old.engine.levels page (evidence_place evidence)) →
-      ((place : Place) → why ≡ Tampered place → IsFetchPlace old.engine.levels page place
+      ((evidence : Evidence) → old.engine.evidence ≡ None → new.engine.evidence ≡ Some evidence → IsFetchPlace old.engine.geometry page (evidence_place evidence)) →
+      ((place : Place) → why ≡ Tampered place → IsFetchPlace old.engine.geometry page place
       × (old.engine.evidence ≡ None → Rose (history old.bus).lies (history new.bus).lies)) →
       ((spent : ℕ) → why ≢ Spent spent) → HasCome terms page old counters new counters' → IsLineRead terms line old counters new counters' (Err why)
   unread new counters' why reached pads once still same found tampered unspent come = record {
     bus = reached.node.bus;
     step = reached.node.step;
     pairs = reached.node.pairs;
-    levels = reached.levels;
+    geometry = reached.geometry;
     pads = pads;
     writes = reached.node.writes;
     once = omega (arith, once);
@@ -118,20 +118,20 @@ module _ {B T : Type 0} (history : B → BusHistory) (moved : B → B → Type 0
     accounted = reached.accounted;
     shows = reached.shows;
     accepted = λ at under sealed made_count quiet is.
-        not_node old.engine.levels page at (found (Forgery at under sealed made_count) quiet is);
+        not_node old.engine.geometry page at (found (Forgery at under sealed made_count) quiet is);
     accepted_counters = λ made_at block tag quiet is. tt;
     checked = tt;
     tampered = λ place is.
         let same_stop : why ≡ Tampered place = cc in
         let there = tampered place same_stop in
-        (inr (subst (λ (p : ℕ). IsFetchPlace old.engine.levels p place) page_is there.0), there.1);
+        (inr (subst (λ (p : ℕ). IsFetchPlace old.engine.geometry p place) page_is there.0), there.1);
     unspent = λ spent is. let same_stop : why ≡ Spent spent = cc in unspent spent same_stop;
   }
 
   -- they were, and the line was read under its own
 
   module _ (got : OutsideView B T) (counters' : CountersView) (place : ℕ) (block : CounterBlockView) (a : IsReached terms old counters got counters' None)
-      (got_pads : got.pads ≡ old.pads) (place_is : place ≡ place_of line) (inside : line < line_count old.engine.levels)
+      (got_pads : got.pads ≡ old.pads) (place_is : place ≡ place_of line) (inside : line < line_count old.engine.geometry)
       (new : OutsideView B T) (counter : Counter) (result : Result (List ℕ) MemStop) (counter_is : counter ≡ counter_of place block)
       (r : StepMoves (history got.bus) got.engine (history new.bus) new.engine) (unmade : new.engine.made ≡ got.engine.made) (pads : new.pads ≡ got.pads)
       (unwritten : (history new.bus).written ≡ (history got.bus).written)
@@ -140,8 +140,8 @@ module _ {B T : Type 0} (history : B → BusHistory) (moved : B → B → Type 0
     whole_step =
         let step = step_on (history old.bus) (history got.bus) (history new.bus) old.engine got.engine new.engine a.node.step r in
         record {
-          bus_levels = step.bus_levels;
-          levels = step.levels;
+          bus_geometry = step.bus_geometry;
+          geometry = step.geometry;
           tagger = step.tagger;
           more = a.node.step.more;
           made = unmade ∙ a.node.step.made;
@@ -152,7 +152,7 @@ module _ {B T : Type 0} (history : B → BusHistory) (moved : B → B → Type 0
         }
 
     got_terms : terms_of history moved d n got ≡ terms
-    got_terms = same_terms history moved d n old got a.node.step.tagger a.node.step.levels
+    got_terms = same_terms history moved d n old got a.node.step.tagger a.node.step.geometry
 
     got_quiet : new.engine.evidence ≡ None → got.engine.evidence ≡ None
     got_quiet quiet = was_none got.engine.evidence new.engine.evidence r.evidence quiet
@@ -166,11 +166,11 @@ module _ {B T : Type 0} (history : B → BusHistory) (moved : B → B → Type 0
         (λ level index. ap (λ (w : Place → List ℕ). w (node_place level index)) unwritten)
         (λ level index. ap (λ (made : List Message). last_node level index made) unmade) got_quiet (a.fits refl)
 
-    read_consistent : IsConsistent terms.tag_of terms.levels (history new.bus) new.engine.made new.pads.used
+    read_consistent : IsConsistent terms.tag_of terms.geometry (history new.bus) new.engine.made new.pads.used
     read_consistent =
-        subst (λ (p : PadEngineView). IsConsistent terms.tag_of terms.levels (history new.bus) new.engine.made p.used) (sym pads)
-        (subst (λ (made : List Message). IsConsistent terms.tag_of terms.levels (history new.bus) made got.pads.used) (sym unmade)
-        (same_consistent terms.tag_of terms.levels (history got.bus) (history new.bus) got.engine.made got.pads.used a.node.consistent r.bus_levels unwritten))
+        subst (λ (p : PadEngineView). IsConsistent terms.tag_of terms.geometry (history new.bus) new.engine.made p.used) (sym pads)
+        (subst (λ (made : List Message). IsConsistent terms.tag_of terms.geometry (history new.bus) made got.pads.used) (sym unmade)
+        (same_consistent terms.tag_of terms.geometry (history got.bus) (history new.bus) got.engine.made got.pads.used a.node.consistent r.bus_geometry unwritten))
 
     got_bytes : line_bytes got.pads.key got.engine.made line ≡ line_bytes old.pads.key old.engine.made line
     got_bytes =
@@ -182,12 +182,12 @@ module _ {B T : Type 0} (history : B → BusHistory) (moved : B → B → Type 0
         come_more terms (page_of line) old got new counters counters' r.reads got_quiet nodes (λ level index. ap (last_node level index) unmade)
         (subst (λ (p : ℕ). HasCome terms p old counters got counters') page_is come)
 
-    pub line_read : (history got.bus).accesses ≤ (history old.bus).accesses + counter_accesses old.engine.levels →
+    pub line_read : (history got.bus).accesses ≤ (history old.bus).accesses + counter_accesses old.engine.geometry.levels →
         (Contains (cached_pages counters) (page_of line) → (history got.bus).accesses ≡ (history old.bus).accesses) →
         (got.engine.evidence ≡ None → SameCounters counters old.engine.made counters' got.engine.made) →
         HasCome terms page old counters got counters' →
         (got.engine.evidence ≡ None → ¬ Contains (cached_pages counters) page → PathWasRead counters.tree old.engine.made 0 page (history old.bus) (history got.bus)) →
-        ((evidence : Evidence) → old.engine.evidence ≡ None → got.engine.evidence ≡ Some evidence → IsFetchPlace old.engine.levels page (evidence_place evidence)) →
+        ((evidence : Evidence) → old.engine.evidence ≡ None → got.engine.evidence ≡ Some evidence → IsFetchPlace old.engine.geometry page (evidence_place evidence)) →
         ((made_at : ℕ) (bytes tag : List ℕ) → old.engine.evidence ≡ None →
         got.engine.evidence ≡ Some (Collision 0 page made_at bytes tag) → block ≡ block_of bytes) →
         AreHad terms.tag_of counters counters' got.engine.made page old.engine.evidence got.engine.evidence block →
@@ -211,10 +211,10 @@ module _ {B T : Type 0} (history : B → BusHistory) (moved : B → B → Type 0
       bus = went;
       step = whole_step;
       pairs = a.node.pairs;
-      levels = a.levels;
+      geometry = a.geometry;
       pads = all_pads;
       writes = let more = writes_on (history old.bus) (history got.bus) (history new.bus) (length a.node.step.more) 0 (unwritten_in (result_err result))
-          r.bus_levels r.reads r.accesses a.node.writes (record { writes = 0; counted = counted; at_most = omega arith; at_least = omega arith }) in
+          r.bus_geometry r.reads r.accesses a.node.writes (record { writes = 0; counted = counted; at_most = omega arith; at_least = omega arith }) in
           record { writes = more.writes; counted = more.counted; at_most = omega (arith, more.at_most); at_least = omega (arith, more.at_least) };
       once = omega (arith, got_once, once);
       hit = λ cached. let idle = still cached in omega (arith, idle, once);
@@ -222,10 +222,10 @@ module _ {B T : Type 0} (history : B → BusHistory) (moved : B → B → Type 0
       alone = λ other differs. alone other differs ∙ a.node.lines.reads other;
       consistent = read_consistent;
       holds_last =
-          subst (λ (made : List Message). HoldsLast terms.tag_of (line_count terms.levels) made (history new.bus).written) (sym unmade)
-          (subst (HoldsLast terms.tag_of (line_count terms.levels) got.engine.made) (sym unwritten) a.node.holds_last);
+          subst (λ (made : List Message). HoldsLast terms.tag_of (line_count terms.geometry) made (history new.bus).written) (sym unmade)
+          (subst (HoldsLast terms.tag_of (line_count terms.geometry) got.engine.made) (sym unwritten) a.node.holds_last);
       nodes_hold_last = λ goes_on.
-          nodes_last terms.levels got.engine.made new.engine.made (history got.bus).written (history new.bus).written (a.node.nodes_hold_last (λ is. cc))
+          nodes_last terms.geometry got.engine.made new.engine.made (history got.bus).written (history new.bus).written (a.node.nodes_hold_last (λ is. cc))
           (λ level index. ap (λ (w : Place → List ℕ). w (node_place level index)) unwritten)
           (λ level index. ap (λ (made : List Message). last_node level index made) unmade);
       fits = λ none. read_fits;
@@ -233,8 +233,8 @@ module _ {B T : Type 0} (history : B → BusHistory) (moved : B → B → Type 0
       few = come.few;
       copies = (read_come come).copies;
       nodes = λ quiet was.
-          subst (λ (p : PadEngineView). NodesSay terms.tag_of terms.levels p.used new.engine.made) (sym pads)
-          (subst (NodesSay terms.tag_of terms.levels got.pads.used) (sym unmade) (a.nodes (got_quiet quiet) was));
+          subst (λ (p : PadEngineView). NodesSay terms.tag_of terms.geometry p.used new.engine.made) (sym pads)
+          (subst (NodesSay terms.tag_of terms.geometry got.pads.used) (sym unmade) (a.nodes (got_quiet quiet) was));
       value = λ quiet. if_ok _ _ result (λ bytes is. is ∙ got_bytes) (value quiet);
       unread = (read_come come).unread;
       path = λ quiet none missed.
@@ -255,7 +255,7 @@ module _ {B T : Type 0} (history : B → BusHistory) (moved : B → B → Type 0
       shows = shows_on terms old got new a.node.step r a.shows shows;
       accepted = λ at counter_used sealed made_count quiet is.
           let still : got.engine.evidence ≡ None =
-          before_line old.engine.levels page at counter_used sealed made_count got.engine.evidence new.engine.evidence (λ evidence there. node_found evidence quiet there)
+          before_line old.engine.geometry page at counter_used sealed made_count got.engine.evidence new.engine.evidence (λ evidence there. node_found evidence quiet there)
           r.evidence is in
           let answered = accepted at counter_used sealed made_count still is in
           (answered.0, answered.1, answered.2 ∙ ap (λ (p : PadEngineView). Ok (cipher_of p.key line counter_used sealed.cipher)) got_pads);

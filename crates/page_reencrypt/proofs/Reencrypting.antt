@@ -16,7 +16,7 @@ use Rattle.sec_base.specs.declared.place.Place.TheVariants.{Line as line_place, 
 use Rattle.sec_base.specs.declared.stop.MemStop.{MemStop}
 use Rattle.sec_base.specs.declared.stop.MemStop.TheVariants.{Tampered, Spent, NoMemory}
 use Rattle.sec_base.specs.Count.{Rose}
-use Rattle.sec_base.specs.Geometry.{line_count, page_of}
+use Rattle.sec_base.specs.Geometry.{GeometryView, line_count, page_of}
 use Rattle.sec_base.specs.LastMessage.{IsFresh, last_pair}
 use Rattle.sec_base.proofs.Results.{stop_is, was_none}
 use Rattle.bus_model.specs.BusHistory.{BusHistory, after_write}
@@ -221,7 +221,7 @@ module _ {B T : Type 0} (history : B → BusHistory) (moved : B → B → Type 0
   }
 
   module _ (at : ℕ) (plain : List ℕ) (mid new : OutsideView B T) (previous : Counter) (ready : IsReady at plain mid)
-      (inside : at < line_count old.engine.levels) (had : old.engine.evidence ≡ None → HasCounter old.pads.used at previous × IsBefore previous write.counter)
+      (inside : at < line_count old.engine.geometry) (had : old.engine.evidence ≡ None → HasCounter old.pads.used at previous × IsBefore previous write.counter)
       (used : new.pads ≡ after_encrypt at write.counter mid.pads)
       (made : new.engine ≡ after_make (Line at write.counter (cipher_of mid.pads.key at write.counter plain)) mid.engine)
       (undone : cipher_of mid.pads.key at write.counter (cipher_of mid.pads.key at write.counter plain) ≡ plain)
@@ -231,7 +231,7 @@ module _ {B T : Type 0} (history : B → BusHistory) (moved : B → B → Type 0
       IsAccounted (tags_of d n mid.engine) more new.engine.made (history new.bus) None new.engine.evidence)
       (moved_on : (first second third : B) → moved first second → moved second third → moved first third) where
     same : terms mid ≡ terms old
-    same = same_terms history moved d n old mid ready.sealed.step.tagger ready.sealed.step.levels
+    same = same_terms history moved d n old mid ready.sealed.step.tagger ready.sealed.step.geometry
 
     kept_mid : AreConsistent (terms mid) mid
     kept_mid = subst (λ (t : MemoryTerms B). AreConsistent t mid) (sym same) ready.sealed.consistent
@@ -239,8 +239,8 @@ module _ {B T : Type 0} (history : B → BusHistory) (moved : B → B → Type 0
     last_mid : HaveLast (terms mid) mid
     last_mid = subst (λ (t : MemoryTerms B). HaveLast t mid) (sym same) (ready.sealed.holds_last (λ is. cc))
 
-    inside_mid : at < line_count mid.engine.levels
-    inside_mid = subst (λ (l : ℕ). at < line_count l) (sym ready.sealed.step.levels) inside
+    inside_mid : at < line_count mid.engine.geometry
+    inside_mid = subst (λ (l : GeometryView). at < line_count l) (sym ready.sealed.step.geometry) inside
 
     rose_mid : HaveRisen (terms mid) mid
     rose_mid = ready.sealed.risen
@@ -301,7 +301,7 @@ module _ {B T : Type 0} (history : B → BusHistory) (moved : B → B → Type 0
     (first place : ℕ) (sealed : AreSealed (terms_of history moved d n old) write old (range_with_len first place) mid None)
     (reread : mid.engine.evidence ≡ None → AreReread write.line (range_with_len first place) old.pads.used (history old.bus) (history mid.bus)) where
   mid_terms : terms_of history moved d n mid ≡ terms_of history moved d n old
-  mid_terms = same_terms history moved d n old mid sealed.step.tagger sealed.step.levels
+  mid_terms = same_terms history moved d n old mid sealed.step.tagger sealed.step.geometry
 
   pub page_consistent : AreConsistent (terms_of history moved d n mid) mid
   page_consistent = subst (λ (t : MemoryTerms B). AreConsistent t mid) (sym mid_terms) sealed.consistent
@@ -322,9 +322,9 @@ module _ {B T : Type 0} (history : B → BusHistory) (moved : B → B → Type 0
   page_pads_room below room = omega (arith, below, room, sealed.pads_room, range_long)
 
   module _ (at : ℕ) (here : at ≡ first + place) where
-    pub page_inside : (line : ℕ) → first ≡ 64 * page_of line → place < 64 → line < line_count old.engine.levels → at < line_count mid.engine.levels
+    pub page_inside : (line : ℕ) → first ≡ 64 * page_of line → place < 64 → line < line_count old.engine.geometry → at < line_count mid.engine.geometry
     page_inside line start below inside =
-        subst (λ (l : ℕ). at < line_count l) (sym sealed.step.levels) (omega (arith, here, start, below, inside))
+        subst (λ (l : GeometryView). at < line_count l) (sym sealed.step.geometry) (omega (arith, here, start, below, inside))
 
     pub page_counter : (line : ℕ) (block : CounterBlockView) (counter : Counter) → first ≡ 64 * page_of line → place < 64 → counter ≡ counter_of place block →
         (old.engine.evidence ≡ None → (other : ℕ) → page_of other ≡ page_of line → HasCounter old.pads.used other (counter_of (place_of other) block)) →

@@ -6,7 +6,7 @@ use Rattle.std.proofs.lemmas.List.{append-nil, take_all}
 use Rattle.sec_base.specs.declared.counter.Counter.{Counter}
 use Rattle.sec_base.specs.declared.stop.MemStop.{MemStop}
 use Rattle.sec_base.specs.declared.stop.MemStop.TheVariants.{Spent}
-use Rattle.sec_base.specs.Geometry.{line_count, page_of}
+use Rattle.sec_base.specs.Geometry.{GeometryView, line_count, page_of}
 use Rattle.split_counter.specs.CounterBlock.{last_counter, next_counter}
 use Rattle.page_reencrypt.specs.Contents.{ArePaged, AreUnskipped, AreWithin, IsSpent, counter_in, lines_encrypted, page_lines}
 use Rattle.page_reencrypt.specs.SealedLines.{CountersRise}
@@ -112,8 +112,8 @@ last_or_not limit counter =
     ]
 
 -- A write keeps what holds of the counters, where it stopped so.
-module _ (levels limit : ℕ) (used used' : List (ℕ × Counter)) (stopped stopped' stop : Option MemStop) (line count : ℕ)
-    (was : CountersRise levels limit used stopped) (going : lasting_stop stopped ≡ None) (inside : line < line_count levels) (rising : AreRising used')
+module _ (geometry : GeometryView) (limit : ℕ) (used used' : List (ℕ × Counter)) (stopped stopped' stop : Option MemStop) (line count : ℕ)
+    (was : CountersRise geometry limit used stopped) (going : lasting_stop stopped ≡ None) (inside : line < line_count geometry) (rising : AreRising used')
     (entries : used' ≡ used_on used (next_counter (counter_in used line)) (take count (lines_encrypted (next_counter (counter_in used line)) line)))
     (whole : stop ≡ None → count ≡ length (lines_encrypted (next_counter (counter_in used line)) line))
     (spent : (page : ℕ) → stop ≡ Some (Spent page) → (page ≡ page_of line) × (count ≡ 0) × (counter_in used line ≡ last_counter limit))
@@ -125,55 +125,55 @@ module _ (levels limit : ℕ) (used used' : List (ℕ × Counter)) (stopped stop
       entries ∙ ap (λ (k : ℕ). used_on used (next_counter (counter_in used line)) (take k (lines_encrypted (next_counter (counter_in used line)) line))) none
       ∙ append-nil used
 
-  spent_now : (page : ℕ) → counter_in used line ≡ last_counter limit → used' ≡ used → page ≡ page_of line → IsSpent (line_count levels) limit used' page
+  spent_now : (page : ℕ) → counter_in used line ≡ last_counter limit → used' ≡ used → page ≡ page_of line → IsSpent (line_count geometry) limit used' page
   spent_now page last same page_is =
-      subst (λ (u : List (ℕ × Counter)). IsSpent (line_count levels) limit u page) (sym same)
+      subst (λ (u : List (ℕ × Counter)). IsSpent (line_count geometry) limit u page) (sym same)
       (record { line = line; inside = inside; of_page = sym page_is; used_up = last })
 
-  rises_spent : counter_in used line ≡ last_counter limit → CountersRise levels limit used' stopped'
+  rises_spent : counter_in used line ≡ last_counter limit → CountersRise geometry limit used' stopped'
   rises_spent last =
       let same : used' ≡ used = no_more (used_up last).0 in
       record {
         rising = rising;
-        within = subst (AreWithin (line_count levels) limit) (sym same) was.within;
-        unskipped = subst (AreUnskipped (line_count levels)) (sym same) was.unskipped;
-        paged = λ going_on. subst (ArePaged (line_count levels)) (sym same) (was.paged going);
+        within = subst (AreWithin (line_count geometry) limit) (sym same) was.within;
+        unskipped = subst (AreUnskipped (line_count geometry)) (sym same) was.unskipped;
+        paged = λ going_on. subst (ArePaged (line_count geometry)) (sym same) (was.paged going);
         spent = λ page is.
             elim (spent_by page is) [
-              | inl before ↦ subst (λ (u : List (ℕ × Counter)). IsSpent (line_count levels) limit u page) (sym same) (was.spent page before)
+              | inl before ↦ subst (λ (u : List (ℕ × Counter)). IsSpent (line_count geometry) limit u page) (sym same) (was.spent page before)
               | inr now ↦ spent_now page last same (spent page now).0
             ];
       }
 
-  rises_on : counter_in used line ≢ last_counter limit → CountersRise levels limit used' stopped'
+  rises_on : counter_in used line ≢ last_counter limit → CountersRise geometry limit used' stopped'
   rises_on below =
       let counter : Counter = next_counter (counter_in used line) in
       let all : List ℕ = lines_encrypted counter line in
       let paged = was.paged going in
       record {
         rising = rising;
-        within = subst (AreWithin (line_count levels) limit) (sym entries)
-            (within_after limit (line_count levels) used line was.within paged inside below (take count all));
-        unskipped = subst (AreUnskipped (line_count levels)) (sym entries)
-            (unskipped_after limit (line_count levels) used line was.within paged inside below count was.unskipped);
+        within = subst (AreWithin (line_count geometry) limit) (sym entries)
+            (within_after limit (line_count geometry) used line was.within paged inside below (take count all));
+        unskipped = subst (AreUnskipped (line_count geometry)) (sym entries)
+            (unskipped_after limit (line_count geometry) used line was.within paged inside below count was.unskipped);
         paged = λ goes_on.
             elim (lasts goes_on) [
               | inl none ↦
                   let every : take count all ≡ all = take_all count all (omega (arith, whole none)) in
-                  subst (ArePaged (line_count levels)) (sym (entries ∙ ap (used_on used counter) every))
-                  (paged_after limit (line_count levels) used line was.within paged inside below)
+                  subst (ArePaged (line_count geometry)) (sym (entries ∙ ap (used_on used counter) every))
+                  (paged_after limit (line_count geometry) used line was.within paged inside below)
               | inr stopped_so ↦ absurd (below (spent stopped_so.0 stopped_so.1).2)
             ];
         spent = λ page is.
             elim (spent_by page is) [
               | inl before ↦
-                  subst (λ (u : List (ℕ × Counter)). IsSpent (line_count levels) limit u page) (sym entries)
-                  (spent_still limit (line_count levels) used line was.within paged inside below count page (was.spent page before))
+                  subst (λ (u : List (ℕ × Counter)). IsSpent (line_count geometry) limit u page) (sym entries)
+                  (spent_still limit (line_count geometry) used line was.within paged inside below count page (was.spent page before))
               | inr now ↦ absurd (below (spent page now).2)
             ];
       }
 
-  pub rises_after : CountersRise levels limit used' stopped'
+  pub rises_after : CountersRise geometry limit used' stopped'
   rises_after =
       elim (last_or_not limit (counter_in used line)) [
         | inl last ↦ rises_spent last

@@ -3,7 +3,7 @@ use Rattle.std.proofs.Common.{◌≡◌, ◌⊎◌, inl, inr, ℕ, zero, suc, �
 use Rattle.std.specs.Option.{option_map}
 use Rattle.std.proofs.lemmas.List.{append-nil, append_cancel_left}
 use Rattle.std.proofs.lemmas.List.Elements.{Contains-append_cases, Contains-append_left}
-use Rattle.sec_base.specs.Geometry.{page_count, page_of}
+use Rattle.sec_base.specs.Geometry.{GeometryView, page_count, page_of}
 use Rattle.sec_base.specs.LastMessage.{data_pairs, last_node, last_pair}
 use Rattle.sec_base.specs.declared.counter.Counter.{Counter}
 use Rattle.sec_base.specs.declared.message.Message.{Message}
@@ -40,7 +40,7 @@ no_node (Line line counter cipher ∷ more) level index block lines (suc k, with
     no_node more level index block (omega (arith, lines)) (k, omega (arith, within), there)
 no_node (Node at_level at bytes ∷ more) level index block lines listed = let few = pairs_few more in omega (arith, few, lines)
 
-module _ (tag_of : Message → List ℕ) (levels : ℕ) (used entries : List (ℕ × Counter)) (made more : List Message)
+module _ (tag_of : Message → List ℕ) (geometry : GeometryView) (used entries : List (ℕ × Counter)) (made more : List Message)
     (lines : length more ≤ length (data_pairs more)) where
   node_before : (level index : ℕ) (block : List ℕ) → Contains (made ++ more) (Node level index block) → Contains made (Node level index block)
   node_before level index block listed =
@@ -50,9 +50,9 @@ module _ (tag_of : Message → List ℕ) (levels : ℕ) (used entries : List (�
       ]
 
   -- lines were tagged since, and entries were added
-  pub say_on : NodesSay tag_of levels used made → NodesSay tag_of levels (used ++ entries) (made ++ more)
+  pub say_on : NodesSay tag_of geometry used made → NodesSay tag_of geometry (used ++ entries) (made ++ more)
   say_on was = record {
-    slots = slots_on tag_of levels made more (λ level index block. no_node more level index block lines) was.slots;
+    slots = slots_on tag_of geometry made more (λ level index block. no_node more level index block lines) was.slots;
     blocks = record {
       said = λ page line block listed of_page.
           elim (was.blocks.said page line block (node_before 0 page block listed) of_page) [
@@ -69,9 +69,9 @@ some_way None copy is = absurd (cc)
 some_way (Some way) copy is = refl
 
 -- its page is of the memory
-copied_page : (levels : ℕ) (counters : CountersView) (page : ℕ) (copy : CachedNode) → AreOfPages levels counters → cached_block counters page ≡ Some copy →
-    page < page_count levels
-copied_page levels counters page copy pages is = pages page (listed_at counters.blocks page (some_way (way_at counters.blocks page) copy is))
+copied_page : (geometry : GeometryView) (counters : CountersView) (page : ℕ) (copy : CachedNode) → AreOfPages geometry counters → cached_block counters page ≡ Some copy →
+    page < page_count geometry
+copied_page geometry counters page copy pages is = pages page (listed_at counters.blocks page (some_way (way_at counters.blocks page) copy is))
 
 -- the last entry of a line, if it has one
 last_or_none : (used : List (ℕ × Counter)) (line : ℕ) (last : Option Counter) → last_pair line used ≡ last →
@@ -119,16 +119,16 @@ leaving_listed counters page made made' more other bytes only adds listed =
     ]
 
 -- so blocks say entries still where counters were had
-pub says_had : (levels : ℕ) (used : List (ℕ × Counter)) (counters : CountersView) (page : ℕ) (old new : BusHistory) (made made' : List Message) →
-    SameLines old made new made' → AreOfPages levels counters → ((other : ℕ) → other < page_count levels → IsOfPage used other (counters_in counters made other)) →
+pub says_had : (geometry : GeometryView) (used : List (ℕ × Counter)) (counters : CountersView) (page : ℕ) (old new : BusHistory) (made made' : List Message) →
+    SameLines old made new made' → AreOfPages geometry counters → ((other : ℕ) → other < page_count geometry → IsOfPage used other (counters_in counters made other)) →
     OnlyLeavingIsMade counters page made made' → BlocksSayEntries used made → BlocksSayEntries used made'
-says_had levels used counters page old new made made' lines pages says only was = record {
+says_had geometry used counters page old new made made' lines pages says only was = record {
   said = λ other line block listed of_page.
       elim (Contains-append_cases made lines.more (Node 0 other block) (subst (λ (m : List Message). Contains m (Node 0 other block)) lines.made_more listed)) [
         | inl early ↦ was.said other line block early of_page
         | inr late ↦
             let copy = (leaving_listed counters page made made' lines.more other block only lines.made_more late).1 in
             copy_says used made counters other line block copy
-            (says other (copied_page levels counters other (record { block = block; changed = true }) pages copy)) of_page
+            (says other (copied_page geometry counters other (record { block = block; changed = true }) pages copy)) of_page
       ];
 }

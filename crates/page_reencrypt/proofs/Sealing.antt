@@ -11,7 +11,7 @@ use Rattle.sec_base.specs.declared.place.Place.TheVariants.{Line as line_place, 
 use Rattle.sec_base.specs.declared.stop.MemStop.{MemStop}
 use Rattle.sec_base.specs.declared.stop.MemStop.TheVariants.{Tampered, Spent, NoMemory}
 use Rattle.sec_base.specs.Count.{Rose}
-use Rattle.sec_base.specs.Geometry.{line_count}
+use Rattle.sec_base.specs.Geometry.{GeometryView, line_count}
 use Rattle.sec_base.specs.LastMessage.{data_pairs, last_data, last_node}
 use Rattle.sec_base.proofs.SamePlaces.{at_place-there}
 use Rattle.sec_base.proofs.Results.{was_none}
@@ -39,11 +39,11 @@ use Rattle.page_reencrypt.proofs.Unmade.{same_consistent, same_tags}
 
 -- A memory is seen alike before and after a call.
 pub same_terms : {B T : Type 0} (history : B → BusHistory) (moved : B → B → Type 0) (d n : T → List ℕ → List ℕ) (old new : OutsideView B T) →
-    new.engine.tagger ≡ old.engine.tagger → new.engine.levels ≡ old.engine.levels → terms_of history moved d n new ≡ terms_of history moved d n old
-same_terms {B} {T} history moved d n old new tagger levels =
-    ap (λ (t : Message → List ℕ). let m : MemoryTerms B = record { history = history; moved = moved; tag_of = t; levels = new.engine.levels } in m)
-    (same_tags d n old.engine new.engine tagger levels)
-    ∙ ap (λ (l : ℕ). let m : MemoryTerms B = record { history = history; moved = moved; tag_of = tags_of d n old.engine; levels = l } in m) levels
+    new.engine.tagger ≡ old.engine.tagger → new.engine.geometry ≡ old.engine.geometry → terms_of history moved d n new ≡ terms_of history moved d n old
+same_terms {B} {T} history moved d n old new tagger geometry =
+    ap (λ (t : Message → List ℕ). let m : MemoryTerms B = record { history = history; moved = moved; tag_of = t; geometry = new.engine.geometry } in m)
+    (same_tags d n old.engine new.engine tagger geometry)
+    ∙ ap (λ (l : GeometryView). let m : MemoryTerms B = record { history = history; moved = moved; tag_of = tags_of d n old.engine; geometry = l } in m) geometry
 
 -- Lines in a list
 
@@ -106,8 +106,8 @@ module _ {B T : Type 0} (terms : MemoryTerms B) (write : LineWrite) where
   only_read old new stop moved moves made room pads written unread counted kept risen last accounted shows tampered unspent = record {
     bus = moved;
     step = record {
-      bus_levels = moves.bus_levels;
-      levels = moves.levels;
+      bus_geometry = moves.bus_geometry;
+      geometry = moves.geometry;
       tagger = moves.tagger;
       more = [];
       made = made ∙ sym (append-nil old.engine.made);
@@ -131,14 +131,14 @@ module _ {B T : Type 0} (terms : MemoryTerms B) (write : LineWrite) where
     at_least = omega arith;
     room = omega (arith, room);
     pads_room = omega (arith, ap (λ (p : PadEngineView). p.room) pads);
-    consistent = subst (λ (p : PadEngineView). IsConsistent terms.tag_of terms.levels (terms.history new.bus) new.engine.made p.used) (sym pads)
-        (subst (λ (m : List Message). IsConsistent terms.tag_of terms.levels (terms.history new.bus) m old.pads.used) (sym made)
-        (same_consistent terms.tag_of terms.levels (terms.history old.bus) (terms.history new.bus) old.engine.made old.pads.used kept moves.bus_levels written));
+    consistent = subst (λ (p : PadEngineView). IsConsistent terms.tag_of terms.geometry (terms.history new.bus) new.engine.made p.used) (sym pads)
+        (subst (λ (m : List Message). IsConsistent terms.tag_of terms.geometry (terms.history new.bus) m old.pads.used) (sym made)
+        (same_consistent terms.tag_of terms.geometry (terms.history old.bus) (terms.history new.bus) old.engine.made old.pads.used kept moves.bus_geometry written));
     risen = λ quiet.
         subst (λ (p : PadEngineView). AreRising p.used) (sym pads) (risen (was_none old.engine.evidence new.engine.evidence moves.evidence quiet));
     holds_last = λ goes_on.
-        subst (λ (m : List Message). HoldsLast terms.tag_of (line_count terms.levels) m (terms.history new.bus).written) (sym made)
-        (subst (HoldsLast terms.tag_of (line_count terms.levels) old.engine.made) (sym written) last);
+        subst (λ (m : List Message). HoldsLast terms.tag_of (line_count terms.geometry) m (terms.history new.bus).written) (sym made)
+        (subst (HoldsLast terms.tag_of (line_count terms.geometry) old.engine.made) (sym written) last);
     untouched = λ other unlisted. ap (λ (w : Place → List ℕ). w (line_place other)) written;
     own = λ listed. absurd (listed_not write.line listed);
     own_bytes = λ listed. absurd (listed_not write.line listed);
@@ -153,7 +153,7 @@ module _ {B T : Type 0} (terms : MemoryTerms B) (write : LineWrite) where
 
   -- One line was sealed. With `plain` it is the written line with its new bytes, or another one with what it held.
   module _ (old new : OutsideView B T) (at : ℕ) (previous : Counter) (plain : List ℕ)
-      (kept : AreConsistent terms old) (rose : HaveRisen terms old) (last : HaveLast terms old) (inside : at < line_count terms.levels)
+      (kept : AreConsistent terms old) (rose : HaveRisen terms old) (last : HaveLast terms old) (inside : at < line_count terms.geometry)
       (had : old.engine.evidence ≡ None → HasCounter old.pads.used at previous × IsBefore previous write.counter)
       (held : ((at ≡ write.line) × (plain ≡ write.bytes))
       ⊎ ((at ≢ write.line) × (old.engine.evidence ≡ None → plain ≡ line_bytes old.pads.key old.engine.made at)))
@@ -181,8 +181,8 @@ module _ {B T : Type 0} (terms : MemoryTerms B) (write : LineWrite) where
 
     abbrev step : StepMoves (terms.history old.bus) old.engine (terms.history new.bus) new.engine
     step = record {
-      bus_levels = moves.bus_levels;
-      levels = moves.levels;
+      bus_geometry = moves.bus_geometry;
+      geometry = moves.geometry;
       tagger = moves.tagger;
       more = Line at write.counter cipher ∷ [];
       made = made_is;
@@ -249,8 +249,8 @@ module _ {B T : Type 0} (terms : MemoryTerms B) (write : LineWrite) where
         (terms.history new.bus).reads ≡ (terms.history old.bus).reads →
         ((level index : ℕ) → (terms.history new.bus).written (node_place level index) ≡ (terms.history old.bus).written (node_place level index)) →
         ((other : ℕ) → other ≢ at → (terms.history new.bus).written (line_place other) ≡ (terms.history old.bus).written (line_place other)) →
-        IsConsistent terms.tag_of terms.levels (terms.history new.bus) made_now used_now →
-        (stop ≢ Some NoMemory → HoldsLast terms.tag_of (line_count terms.levels) made_now (terms.history new.bus).written) →
+        IsConsistent terms.tag_of terms.geometry (terms.history new.bus) made_now used_now →
+        (stop ≢ Some NoMemory → HoldsLast terms.tag_of (line_count terms.geometry) made_now (terms.history new.bus).written) →
         ((place : Place) → stop ≢ Some (Tampered place)) → ((page : ℕ) → stop ≢ Some (Spent page)) → AreSealed terms write old (at ∷ []) new stop
     one_with stop writes counted most least reads nodes lines fits lasts untampered unspent = record {
       bus = moved;
@@ -270,13 +270,13 @@ module _ {B T : Type 0} (terms : MemoryTerms B) (write : LineWrite) where
       at_least = least;
       room = omega (arith, ap (λ (e : TagEngineView T). e.room) made);
       pads_room = omega (arith, ap (λ (p : PadEngineView). p.room) used);
-      consistent = subst (λ (m : List Message). IsConsistent terms.tag_of terms.levels (terms.history new.bus) m new.pads.used) (sym made_is)
-          (subst (λ (u : List (ℕ × Counter)). IsConsistent terms.tag_of terms.levels (terms.history new.bus) made_now u) (sym used_is) fits);
+      consistent = subst (λ (m : List Message). IsConsistent terms.tag_of terms.geometry (terms.history new.bus) m new.pads.used) (sym made_is)
+          (subst (λ (u : List (ℕ × Counter)). IsConsistent terms.tag_of terms.geometry (terms.history new.bus) made_now u) (sym used_is) fits);
       risen = λ quiet.
           let had_it = had (was_quiet quiet) in
           subst AreRising (sym used_is) (risen_more old.pads.used at previous write.counter (rose (was_quiet quiet)) had_it.0 had_it.1);
       holds_last = λ goes_on.
-          subst (λ (m : List Message). HoldsLast terms.tag_of (line_count terms.levels) m (terms.history new.bus).written) (sym made_is) (lasts goes_on);
+          subst (λ (m : List Message). HoldsLast terms.tag_of (line_count terms.geometry) m (terms.history new.bus).written) (sym made_is) (lasts goes_on);
       untouched = λ other unlisted. lines other (λ same. unlisted (zero, omega arith, sym same));
       own = own;
       own_bytes = own_bytes;
@@ -304,10 +304,10 @@ module _ {B T : Type 0} (terms : MemoryTerms B) (write : LineWrite) where
         let apart : line_place other ≢ line_place at = λ same. differs (cc) in
         ap (λ (w : Place → List ℕ). w (line_place other)) once.written
         ∙ at_place-there (line_place at) (line_place other) (sealed_line terms.tag_of at write.counter cipher) (terms.history old.bus).written apart)
-        (written_consistent terms.tag_of terms.levels (terms.history old.bus) old.engine.made old.pads.used at write.counter cipher
-        kept inside long (terms.history new.bus) moves.bus_levels once.written)
-        (λ goes_on. subst (HoldsLast terms.tag_of (line_count terms.levels) made_now) (sym once.written)
-        (written_last terms.tag_of terms.levels (terms.history old.bus) old.engine.made old.pads.used at write.counter cipher
+        (written_consistent terms.tag_of terms.geometry (terms.history old.bus) old.engine.made old.pads.used at write.counter cipher
+        kept inside long (terms.history new.bus) moves.bus_geometry once.written)
+        (λ goes_on. subst (HoldsLast terms.tag_of (line_count terms.geometry) made_now) (sym once.written)
+        (written_last terms.tag_of terms.geometry (terms.history old.bus) old.engine.made old.pads.used at write.counter cipher
         kept inside long last))
         (λ place is. cc) (λ page is. cc)
 
@@ -318,8 +318,8 @@ module _ {B T : Type 0} (terms : MemoryTerms B) (write : LineWrite) where
         one_with (Some NoMemory) 0 (subst (λ (t : BusHistory). AreCounted (terms.history old.bus) t 0) (sym same) (counted_not (terms.history old.bus)))
         (omega arith) (omega arith) (ap (λ (t : BusHistory). t.reads) same) (λ level index. ap (λ (t : BusHistory). t.written (node_place level index)) same)
         (λ other differs. ap (λ (t : BusHistory). t.written (line_place other)) same)
-        (unwritten_consistent terms.tag_of terms.levels (terms.history old.bus) old.engine.made old.pads.used at write.counter cipher
-        kept inside long (terms.history new.bus) moves.bus_levels (ap (λ (t : BusHistory). t.written) same))
+        (unwritten_consistent terms.tag_of terms.geometry (terms.history old.bus) old.engine.made old.pads.used at write.counter cipher
+        kept inside long (terms.history new.bus) moves.bus_geometry (ap (λ (t : BusHistory). t.written) same))
         (λ goes_on. absurd (goes_on refl)) (λ place is. cc) (λ page is. cc)
 
   -- as many messages were made as lines were encrypted
@@ -360,8 +360,8 @@ module _ {B T : Type 0} (terms : MemoryTerms B) (write : LineWrite) where
       record {
         bus = moved_on first.bus second.bus third.bus a.bus b.bus;
         step = record {
-          bus_levels = step.bus_levels;
-          levels = step.levels;
+          bus_geometry = step.bus_geometry;
+          geometry = step.geometry;
           tagger = step.tagger;
           more = a.step.more ++ b.step.more;
           made = b.step.made ∙ ap (λ (made : List Message). made ++ b.step.more) a.step.made ∙ append_assoc first.engine.made a.step.more b.step.more;
@@ -384,7 +384,7 @@ module _ {B T : Type 0} (terms : MemoryTerms B) (write : LineWrite) where
         as_many = omega (arith, length-append a.step.more b.step.more, a.as_many, b.as_many, many);
         writes = a.writes + b.writes;
         counted = counted_on (terms.history first.bus) (terms.history second.bus) (terms.history third.bus) a.writes b.writes
-            b.step.bus_levels b.step.reads b.step.accesses a.counted b.counted;
+            b.step.bus_geometry b.step.reads b.step.accesses a.counted b.counted;
         at_most = omega (arith, many, a.at_most, b.at_most);
         at_least = omega (arith, many, a.at_least, b.at_least);
         room = omega (arith, many, a.room, b.room);

@@ -7,7 +7,7 @@ use Rattle.sec_base.specs.declared.counter.Counter.{Counter}
 use Rattle.sec_base.specs.declared.message.Message.{Message}
 use Rattle.sec_base.specs.declared.message.Message.TheVariants.{Line, Node}
 use Rattle.sec_base.specs.LastMessage.{last_data, last_pair}
-use Rattle.sec_base.specs.Geometry.{page_of}
+use Rattle.sec_base.specs.Geometry.{GeometryView, page_of}
 use Rattle.sec_base.specs.declared.geometry.TheConstants.{LINES_PER_PAGE}
 use Rattle.sec_base.specs.Place.{zeros_of}
 use Rattle.sec_base.specs.Lines.{joined_lines}
@@ -83,8 +83,8 @@ pub record BlocksSayEntries (used : List (ℕ × Counter)) (made : List Message)
 
 -- What was made of nodes says tags and counters alone: each slot the tag of that child's last message, or zeros where it was
 -- never made, and each counter block counters of its lines.
-pub record NodesSay (tag_of : Message → List ℕ) (levels : ℕ) (used : List (ℕ × Counter)) (made : List Message) : Type 0 where
-  pub slots : SlotsAreTags tag_of levels made
+pub record NodesSay (tag_of : Message → List ℕ) (geometry : GeometryView) (used : List (ℕ × Counter)) (made : List Message) : Type 0 where
+  pub slots : SlotsAreTags tag_of geometry made
   pub blocks : BlocksSayEntries used made
 
 -- some line of the page has the last counter that the limit allows

@@ -13,7 +13,7 @@ use Rattle.sec_base.specs.declared.stop.MemStop.TheVariants.{Spent, NoMemory}
 use Rattle.sec_base.specs.Count.{Rose}
 use Rattle.sec_base.specs.Evidence.{sealed_bytes}
 use Rattle.sec_base.specs.LastMessage.{IsFresh, last_data, data_pairs}
-use Rattle.sec_base.specs.Geometry.{line_count, page_count, page_of}
+use Rattle.sec_base.specs.Geometry.{GeometryView, line_count, page_count, page_of}
 use Rattle.bus_model.specs.BusHistory.{BusHistory, after_read}
 use Rattle.tag_engine.specs.TagEngine.{TagEngineView, tags_of}
 use Rattle.pad_stream.specs.Pad.{cipher_of}
@@ -58,13 +58,13 @@ evidence lines = lines.engine.evidence
 abbrev pub enc_key : {B T : Type 0} → SealedLinesView B T → List ℕ
 enc_key lines = lines.pads.key
 
--- the levels of the memory's tree, and how many lines it has
-abbrev pub levels : {B T : Type 0} → SealedLinesView B T → ℕ
-levels lines = lines.engine.levels
+-- the geometry of the memory's tree, and how many lines it has
+abbrev pub geometry : {B T : Type 0} → SealedLinesView B T → GeometryView
+geometry lines = lines.engine.geometry
 
 -- how many lines the memory has
 abbrev pub lines_of : {B T : Type 0} → SealedLinesView B T → ℕ
-lines_of lines = line_count (levels lines)
+lines_of lines = line_count (geometry lines)
 
 -- the line is one of the memory's
 abbrev pub IsLineOf : {B T : Type 0} → SealedLinesView B T → ℕ → Type 0
@@ -88,21 +88,21 @@ tag_in data_tag_of node_tag_of lines = tags_of data_tag_of node_tag_of lines.eng
 
 -- What holds at all times: the messages, the list of what was used and what stands outside fit one another; and each
 -- place holds the last message that was made for it, unless there was no memory to write one.
-pub record IsProtected (tag_of : Message → List ℕ) (levels : ℕ) (history : BusHistory) (made : List Message)
+pub record IsProtected (tag_of : Message → List ℕ) (geometry : GeometryView) (history : BusHistory) (made : List Message)
     (used : List (ℕ × Counter)) (stopped : Option MemStop) : Type 0 where
-  pub consistent : IsConsistent tag_of levels history made used
-  pub holds_last : stopped ≢ Some NoMemory → HoldsLast tag_of (line_count levels) made history.written
-  pub nodes_hold_last : stopped ≢ Some NoMemory → NodesHoldLast levels made history.written
+  pub consistent : IsConsistent tag_of geometry history made used
+  pub holds_last : stopped ≢ Some NoMemory → HoldsLast tag_of (line_count geometry) made history.written
+  pub nodes_hold_last : stopped ≢ Some NoMemory → NodesHoldLast geometry made history.written
 
 -- What holds of the counters where there is no evidence: those of each line rise, begin behind that of a line that was
 -- never written, keep to the limit, and skip no page counter; and a page that is spent has a line with the last one.
-pub record CountersRise (levels limit : ℕ) (used : List (ℕ × Counter)) (stopped : Option MemStop) : Type 0 where
+pub record CountersRise (geometry : GeometryView) (limit : ℕ) (used : List (ℕ × Counter)) (stopped : Option MemStop) : Type 0 where
   pub rising : AreRising used
-  pub within : AreWithin (line_count levels) limit used
-  pub unskipped : AreUnskipped (line_count levels) used
+  pub within : AreWithin (line_count geometry) limit used
+  pub unskipped : AreUnskipped (line_count geometry) used
   -- in the middle of an overflow the lines of its page have two page counters
-  pub paged : lasting_stop stopped ≡ None → ArePaged (line_count levels) used
-  pub spent : (page : ℕ) → stopped ≡ Some (Spent page) → IsSpent (line_count levels) limit used page
+  pub paged : lasting_stop stopped ≡ None → ArePaged (line_count geometry) used
+  pub spent : (page : ℕ) → stopped ≡ Some (Spent page) → IsSpent (line_count geometry) limit used page
 
 -- the block of a page says the counters of its lines
 abbrev pub IsOfPage : List (ℕ × Counter) → ℕ → CounterBlockView → Type 0
@@ -110,7 +110,7 @@ IsOfPage used page block = (line : ℕ) → page_of line ≡ page → counter_in
 
 -- The counters on the chip and outside, the entries, the messages and what stands outside fit together. It holds whenever no
 -- call is under way, where there is neither evidence nor a stop that lasts.
-pub record FitsTogether (tag_of : Message → List ℕ) (levels : ℕ) (counters : CountersView) (history : BusHistory)
+pub record FitsTogether (tag_of : Message → List ℕ) (geometry : GeometryView) (counters : CountersView) (history : BusHistory)
     (made : List Message) (used : List (ℕ × Counter)) : Type 0 where
   -- the tag of each node's last block is in the current block of its parent and that of the top node in the root register,
   -- each node's place holds its last block, and a copy that was not changed is that block: of a node, and of a counter block;
@@ -119,36 +119,36 @@ pub record FitsTogether (tag_of : Message → List ℕ) (levels : ℕ) (counters
   pub clean : (page : ℕ) (copy : CachedNode) → cached_block counters page ≡ Some copy → copy.changed ≡ false → copy.block ≡ page_block page made
   -- the current counter block of each page says the last entries of its lines, and a line is fresh exactly where that is
   -- the counter of one that was never written
-  pub current : (page : ℕ) → page < page_count levels → IsOfPage used page (counters_in counters made page)
+  pub current : (page : ℕ) → page < page_count geometry → IsOfPage used page (counters_in counters made page)
   pub fresh : (line : ℕ) → (counter_in used line ≡ never_written) ↔ IsFresh line used
   -- the messages of lines are those of the entries, in order
-  pub paired : data_pairs made ≡ of_lines (line_count levels) used
+  pub paired : data_pairs made ≡ of_lines (line_count geometry) used
   -- the place of each line that is not fresh holds its last message with its tag
-  pub stored : HoldsLast tag_of (line_count levels) made history.written
+  pub stored : HoldsLast tag_of (line_count geometry) made history.written
   -- the counters of each line rise and are none of a line that was never written; and where a page counter is above 0, no
   -- line of the page is fresh
   pub rising : AreRising used
   pub started : (line : ℕ) (counter : Counter) → Contains used (line, counter) → counter ≢ never_written
-  pub whole_pages : (page line : ℕ) → page < page_count levels → 0 < (counters_in counters made page).page → page_of line ≡ page → ¬ IsFresh line used
+  pub whole_pages : (page line : ℕ) → page < page_count geometry → 0 < (counters_in counters made page).page → page_of line ≡ page → ¬ IsFresh line used
 
 -- the lines outside and what the chip has of them fit together
 abbrev pub LinesFit : {B T : Type 0} → (T → List ℕ → List ℕ) → (T → List ℕ → List ℕ) → (B → BusHistory) → SealedLinesView B T → Type 0
 LinesFit data_tag_of node_tag_of history lines =
-    FitsTogether (tag_in data_tag_of node_tag_of lines) (levels lines) lines.counters (history lines.bus) (made lines) (used lines)
+    FitsTogether (tag_in data_tag_of node_tag_of lines) (geometry lines) lines.counters (history lines.bus) (made lines) (used lines)
 
 -- only pages of the memory have a copy of their counter block
-abbrev pub AreOfPages : ℕ → CountersView → Type 0
-AreOfPages levels counters = (page : ℕ) → Contains (cached_pages counters) page → page < page_count levels
+abbrev pub AreOfPages : GeometryView → CountersView → Type 0
+AreOfPages geometry counters = (page : ℕ) → Contains (cached_pages counters) page → page < page_count geometry
 
 -- What holds between calls: at all times, where there is no evidence, and where there is also no stop that lasts.
 pub record AreProtected {B T : Type 0} (data_tag_of node_tag_of : T → List ℕ → List ℕ) (history : B → BusHistory) (lines : SealedLinesView B T) : Type 0 where
   -- the tree over the counters is that of the memory
-  pub tree_levels : lines.counters.tree.levels ≡ levels lines
-  pub pages : AreOfPages (levels lines) lines.counters
-  pub always : IsProtected (tag_in data_tag_of node_tag_of lines) (levels lines) (history lines.bus) (made lines) (used lines) lines.stopped
-  pub rise : IsQuiet lines → CountersRise (levels lines) lines.limit (used lines) lines.stopped
+  pub tree_geometry : lines.counters.tree.geometry ≡ geometry lines
+  pub pages : AreOfPages (geometry lines) lines.counters
+  pub always : IsProtected (tag_in data_tag_of node_tag_of lines) (geometry lines) (history lines.bus) (made lines) (used lines) lines.stopped
+  pub rise : IsQuiet lines → CountersRise (geometry lines) lines.limit (used lines) lines.stopped
   -- what was made of nodes says the tags of its children's last messages, or zeros, and counters of its lines, and nothing else
-  pub nodes : IsQuiet lines → NodesSay (tag_in data_tag_of node_tag_of lines) (levels lines) (used lines) (made lines)
+  pub nodes : IsQuiet lines → NodesSay (tag_in data_tag_of node_tag_of lines) (geometry lines) (used lines) (made lines)
   pub fits : lasting_stop lines.stopped ≡ None → IsQuiet lines → LinesFit data_tag_of node_tag_of history lines
 
 -- the false answers of the bus are accounted for
@@ -157,11 +157,11 @@ AccountsForAll tags history lines =
     IsAccounted (tags lines.engine) (used lines) (made lines) (history lines.bus) lines.stopped (evidence lines)
 
 -- A memory over this bus of which nothing was made: neither its bus nor its tag engine was used.
-pub record AreNew {B T : Type 0} (bus : B) (tagger : T) (key : List ℕ) (depth limit : ℕ) (lines : SealedLinesView B T) : Type 0 where
+pub record AreNew {B T : Type 0} (bus : B) (tagger : T) (key : List ℕ) (shape : GeometryView) (limit : ℕ) (lines : SealedLinesView B T) : Type 0 where
   pub bus_is : lines.bus ≡ bus
   pub tagger_is : lines.engine.tagger ≡ tagger
-  pub depth_is : levels lines ≡ depth
-  pub tree_levels : lines.counters.tree.levels ≡ depth
+  pub geometry_is : geometry lines ≡ shape
+  pub tree_geometry : lines.counters.tree.geometry ≡ shape
   pub root_is : lines.counters.tree.root ≡ no_tag
   pub key_is : enc_key lines ≡ key
   pub limit_is : lines.limit ≡ limit
@@ -291,5 +291,5 @@ pub record IsAcceptedInWrite (line : ℕ) (used used' : List (ℕ × Counter)) (
 -- The place is a node that is read to have the page's counters, or that of another line of the page; and an answer was false,
 -- or there was evidence before.
 pub record IsTamperedInWrite {B T : Type 0} (history : B → BusHistory) (line : ℕ) (place : Place) (old new : SealedLinesView B T) : Type 0 where
-  pub place_is : IsFetchPlace (levels old) (page_of line) place ⊎ IsBeside line place
+  pub place_is : IsFetchPlace (geometry old) (page_of line) place ⊎ IsBeside line place
   pub lied : IsQuiet old → Rose (history old.bus).lies (history new.bus).lies

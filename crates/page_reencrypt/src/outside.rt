@@ -75,16 +75,16 @@ impl<B: Bus, T: Tagger> Outside<B, T> {
         counters: &mut Counters,
         page: u32,
     ) -> Result<CounterBlock, MemStop>
-        requires inside { page < page_count counters.old.tree.levels }
-        requires levels { counters.old.tree.levels ≡ self.old.engine.levels }
+        requires inside { page < page_count counters.old.tree.geometry }
+        requires geometry { counters.old.tree.geometry ≡ self.old.engine.geometry }
         requires consistent { AreConsistent (terms_of B.history B.moved T.data_tag_of T.node_tag_of self.old) self.old }
         requires holds_last { HaveLast (terms_of B.history B.moved T.data_tag_of T.node_tag_of self.old) self.old }
         requires nodes_hold_last { HaveLastNodes (terms_of B.history B.moved T.data_tag_of T.node_tag_of self.old) self.old }
 
         ensures step { IsNodeStep (terms_of B.history B.moved T.data_tag_of T.node_tag_of self.old) self.old self.new (result_err result) }
         ensures pads { self.new.pads ≡ self.old.pads }
-        ensures levels { counters.new.tree.levels ≡ counters.old.tree.levels }
-        ensures once { (B.history self.new.bus).accesses ≤ (B.history self.old.bus).accesses + counter_accesses self.old.engine.levels }
+        ensures geometry { counters.new.tree.geometry ≡ counters.old.tree.geometry }
+        ensures once { (B.history self.new.bus).accesses ≤ (B.history self.old.bus).accesses + counter_accesses self.old.engine.geometry.levels }
 
         // Where the counters fit or there is evidence, they still do, and the counters are the current ones.
         ensures fits { CountersFit (terms_of B.history B.moved T.data_tag_of T.node_tag_of self.old) self.old counters.old →
@@ -96,7 +96,7 @@ impl<B: Bus, T: Tagger> Outside<B, T> {
             self.new.engine.evidence ≡ None → SameCounters counters.old self.old.engine.made counters.new self.new.engine.made }
 
         // A counter block that goes out is made with the counters of its page's lines.
-        ensures nodes { AreOfPages self.old.engine.levels counters.old →
+        ensures nodes { AreOfPages self.old.engine.geometry counters.old →
             CountersFit (terms_of B.history B.moved T.data_tag_of T.node_tag_of self.old) self.old counters.old →
             CountersSay (terms_of B.history B.moved T.data_tag_of T.node_tag_of self.old) self.old counters.old →
             NodesSayStill (terms_of B.history B.moved T.data_tag_of T.node_tag_of self.old) self.old self.new }
@@ -115,7 +115,7 @@ impl<B: Bus, T: Tagger> Outside<B, T> {
             CopiesCame page (B.history self.old.bus) self.old.engine.made counters.old (B.history self.new.bus) counters.new }
         ensures unread { CountersFit (terms_of B.history B.moved T.data_tag_of T.node_tag_of self.old) self.old counters.old →
             self.new.engine.evidence ≡ None → UnmadeAreUnread (B.history self.old.bus) self.new.engine.made (B.history self.new.bus) }
-        ensures pages { AreOfPages self.old.engine.levels counters.new }
+        ensures pages { AreOfPages self.old.engine.geometry counters.new }
 
         // A false answer is shown as evidence or taken for tampering.
         ensures accounted { CountersFit (terms_of B.history B.moved T.data_tag_of T.node_tag_of self.old) self.old counters.old →
@@ -124,12 +124,12 @@ impl<B: Bus, T: Tagger> Outside<B, T> {
         ensures shows { CountersFit (terms_of B.history B.moved T.data_tag_of T.node_tag_of self.old) self.old counters.old →
             ShowsLies (terms_of B.history B.moved T.data_tag_of T.node_tag_of self.old) self.old self.new }
         ensures found { (evidence : Evidence) → self.old.engine.evidence ≡ None → self.new.engine.evidence ≡ Some evidence →
-            IsFetchPlace self.old.engine.levels page (evidence_place evidence) }
+            IsFetchPlace self.old.engine.geometry page (evidence_place evidence) }
         ensures accepted { (made_at : ℕ) (bytes tag : List ℕ) → self.old.engine.evidence ≡ None →
             self.new.engine.evidence ≡ Some (Collision 0 page made_at bytes tag) → result ≡ Ok (block_of bytes) }
         ensures checked { (block : CounterBlockView) → result ≡ Ok block → AreHad (tags_of T.data_tag_of T.node_tag_of self.old.engine)
             counters.old counters.new self.new.engine.made page self.old.engine.evidence self.new.engine.evidence block }
-        ensures tampered { (place : Place) → result ≡ Err (Tampered place) → IsFetchPlace self.old.engine.levels page place
+        ensures tampered { (place : Place) → result ≡ Err (Tampered place) → IsFetchPlace self.old.engine.geometry page place
             × (CountersFit (terms_of B.history B.moved T.data_tag_of T.node_tag_of self.old) self.old counters.old →
             self.old.engine.evidence ≡ None → Rose (B.history self.old.bus).lies (B.history self.new.bus).lies) }
         ensures unspent { (spent : ℕ) → result ≢ Err (Spent spent) }
@@ -145,10 +145,10 @@ impl<B: Bus, T: Tagger> Outside<B, T> {
         place: u8,
         limit: u64,
     ) -> Result<Bumped, MemStop>
-        requires inside { page < page_count counters.old.tree.levels }
+        requires inside { page < page_count counters.old.tree.geometry }
         requires place { place < 64 }
-        requires levels { counters.old.tree.levels ≡ self.old.engine.levels }
-        requires bus_levels { (B.history self.old.bus).levels ≡ self.old.engine.levels }
+        requires geometry { counters.old.tree.geometry ≡ self.old.engine.geometry }
+        requires bus_geometry { (B.history self.old.bus).geometry ≡ self.old.engine.geometry }
         requires cached { Contains (cached_pages counters.old) page }
 
         // Nothing outside is touched, and nothing is tagged.
@@ -156,13 +156,13 @@ impl<B: Bus, T: Tagger> Outside<B, T> {
         ensures moved { B.moved self.old.bus self.new.bus }
         ensures idle { (B.history self.new.bus ≡ B.history self.old.bus) × (self.new.engine ≡ self.old.engine) }
         ensures pads { self.new.pads ≡ self.old.pads }
-        ensures levels { counters.new.tree.levels ≡ counters.old.tree.levels }
+        ensures geometry { counters.new.tree.geometry ≡ counters.old.tree.geometry }
         ensures cached { Contains (cached_pages counters.new) page }
         ensures few_copies { KeepsFew counters.old counters.new }
         ensures copies { CountersFit (terms_of B.history B.moved T.data_tag_of T.node_tag_of self.old) self.old counters.old →
             self.new.engine.evidence ≡ None →
             CopiesCame page (B.history self.old.bus) self.old.engine.made counters.old (B.history self.new.bus) counters.new }
-        ensures pages { AreOfPages self.old.engine.levels counters.new }
+        ensures pages { AreOfPages self.old.engine.geometry counters.new }
 
         // Where the counters fit or there is evidence, they still do, and the line's counter is the next one.
         ensures fits { CountersFit (terms_of B.history B.moved T.data_tag_of T.node_tag_of self.old) self.old counters.old →
@@ -184,7 +184,7 @@ impl<B: Bus, T: Tagger> Outside<B, T> {
     // The bytes of a line, by its counter: zeros where it was never written, without an access; else what its place
     // holds, checked and decrypted. The counter is the line's last, unless there is evidence.
     pub(crate) fn read(&mut self, line: u32, counter: Counter) -> Result<[u8; 64], MemStop>
-        requires inside { line < line_count self.old.engine.levels }
+        requires inside { line < line_count self.old.engine.geometry }
         requires consistent { AreConsistent (terms_of B.history B.moved T.data_tag_of T.node_tag_of self.old) self.old }
         requires holds_last { HaveLast (terms_of B.history B.moved T.data_tag_of T.node_tag_of self.old) self.old }
         requires risen { HaveRisen (terms_of B.history B.moved T.data_tag_of T.node_tag_of self.old) self.old }
@@ -240,8 +240,8 @@ impl<B: Bus, T: Tagger> Outside<B, T> {
         counter: Counter,
         bytes: &[u8; 64],
     ) -> Result<(), NoMemory>
-        requires place { IsPlace (B.history self.old.bus).levels (line_place line) }
-        requires inside { line < line_count self.old.engine.levels }
+        requires bus { (B.history self.old.bus).geometry ≡ self.old.engine.geometry }
+        requires inside { line < line_count self.old.engine.geometry }
         requires room { 0 < self.old.engine.room }
         requires pads_room { 0 < self.old.pads.room }
 
@@ -276,7 +276,7 @@ impl<B: Bus, T: Tagger> Outside<B, T> {
         counter: Counter,
         bytes: &[u8; 64],
     ) -> Result<(), MemStop>
-        requires inside { at < line_count self.old.engine.levels }
+        requires inside { at < line_count self.old.engine.geometry }
         requires of_page { page_of at ≡ page_of line }
         requires consistent { AreConsistent (terms_of B.history B.moved T.data_tag_of T.node_tag_of self.old) self.old }
         requires holds_last { HaveLast (terms_of B.history B.moved T.data_tag_of T.node_tag_of self.old) self.old }
@@ -310,7 +310,7 @@ impl<B: Bus, T: Tagger> Outside<B, T> {
         counter: Counter,
         bytes: &[u8; 64],
     ) -> Result<(), MemStop>
-        requires inside { line < line_count self.old.engine.levels }
+        requires inside { line < line_count self.old.engine.geometry }
         requires consistent { AreConsistent (terms_of B.history B.moved T.data_tag_of T.node_tag_of self.old) self.old }
         requires holds_last { HaveLast (terms_of B.history B.moved T.data_tag_of T.node_tag_of self.old) self.old }
         requires risen { HaveRisen (terms_of B.history B.moved T.data_tag_of T.node_tag_of self.old) self.old }

@@ -24,7 +24,7 @@ ghost use Rattle.counter_cache.specs.Counters.{cached_pages, counter_accesses};
 ghost use Rattle.page_reencrypt.specs.Contents.{counter_in, entries_of_write};
 ghost use Rattle.page_reencrypt.specs.Outside.{Accepts, AreConsistent, CountersFit, CountersSay, HasCounter, HaveLast, HaveLastNodes, HaveRisen, IsLineRead, IsWrite, terms_of};
 ghost use Rattle.page_reencrypt.specs.LineMoves.{ReadMoved, WriteMoved, read_accesses, write_accesses, overflow_accesses};
-ghost use Rattle.page_reencrypt.specs.SealedLines.{AreNew, AreOfPages, AreProtected, AreReread, CopiesCame, HadMemory, IsAcceptedInWrite, IsQuiet, IsReadByCounters, IsReadUnder, IsSealedAnew, IsSealedInPart, IsTamperedInWrite, IsUnsealed, KeepsFew, LinesFit, SameCounters, contents, enc_key, evidence, levels, lines_of, lines_of_write, made, tag_in, used};
+ghost use Rattle.page_reencrypt.specs.SealedLines.{AreNew, AreOfPages, AreProtected, AreReread, CopiesCame, HadMemory, IsAcceptedInWrite, IsQuiet, IsReadByCounters, IsReadUnder, IsSealedAnew, IsSealedInPart, IsTamperedInWrite, IsUnsealed, KeepsFew, LinesFit, SameCounters, contents, enc_key, evidence, geometry, lines_of, lines_of_write, made, tag_in, used};
 ghost use Rattle.page_reencrypt.specs.Stops.{lasting_stop};
 
 use crate::account::Account;
@@ -60,7 +60,7 @@ impl<B: Bus, T: Tagger> Model for SealedLines<B, T> {
 
     ghost view = { sealed_lines_view };
 
-    ghost invariant = { λ lines. (lines.geometry ≡ lines.outside.engine.levels)
+    ghost invariant = { λ lines. (lines.geometry ≡ lines.outside.engine.geometry)
         × AreProtected T.data_tag_of T.node_tag_of B.history (sealed_lines_view lines) };
 }
 
@@ -75,7 +75,7 @@ impl<B: Bus, T: Tagger> SealedLines<B, T> {
         geometry: Geometry,
         page_limit: u64,
     ) -> Result<SealedLines<B, T>, NoMemoryWith<B>>
-        requires levels { (B.history bus).levels ≡ geometry }
+        requires geometry { (B.history bus).geometry ≡ geometry }
         requires nothing_written { NothingWritten (B.history bus) }
 
         ensures new { IfOk result (AreNew bus tagger enc_key.now geometry page_limit) }
@@ -184,7 +184,7 @@ impl<B: Bus, T: Tagger> LineStore for SealedLines<B, T> {
 
         // It is what it takes to have the counters and one access for the line at most, or that one alone where the page's
         // counters are on the chip. No line is encrypted, tagged or written, and no counter changes.
-        ensures once { (B.history self.new.bus).accesses ≤ (B.history self.old.bus).accesses + read_accesses (levels self.old) }
+        ensures once { (B.history self.new.bus).accesses ≤ (B.history self.old.bus).accesses + read_accesses (geometry self.old).levels }
         ensures hit { Contains (cached_pages self.old.counters) (page_of line) →
             (B.history self.new.bus).accesses ≤ (B.history self.old.bus).accesses + 1 }
         ensures unsealed { IsUnsealed B.history self.old self.new }
@@ -231,7 +231,7 @@ impl<B: Bus, T: Tagger> LineStore for SealedLines<B, T> {
         // Tampering comes only of this line or of a node that is read to have its counters, and where an answer was false or
         // there was evidence before.
         ensures tampered { (place : Place) → lasting_stop self.old.stopped ≡ None → result ≡ Err (Tampered place) →
-            ((place ≡ line_place line) ⊎ IsFetchPlace (levels self.old) (page_of line) place)
+            ((place ≡ line_place line) ⊎ IsFetchPlace (geometry self.old) (page_of line) place)
             × (IsQuiet self.old → Rose (B.history self.old.bus).lies (B.history self.new.bus).lies) }
         ensures unspent { (page : ℕ) → result ≢ Err (Spent page) }
     {
@@ -296,9 +296,9 @@ impl<B: Bus, T: Tagger> LineStore for SealedLines<B, T> {
         // more, and reads no line; where those counters are on the chip, it makes one access at most. Any write makes at most
         // 126 accesses more than these sums: 127 where the counters are on the chip.
         ensures once { IsQuiet self.new → (next_counter (counter_in (used self.old) line)).line ≢ 0 →
-            ((B.history self.new.bus).accesses ≤ (B.history self.old.bus).accesses + write_accesses (levels self.old))
+            ((B.history self.new.bus).accesses ≤ (B.history self.old.bus).accesses + write_accesses (geometry self.old).levels)
             × ((other : ℕ) → (B.history self.new.bus).reads (line_place other) ≡ (B.history self.old.bus).reads (line_place other)) }
-        ensures few { (B.history self.new.bus).accesses ≤ (B.history self.old.bus).accesses + overflow_accesses (levels self.old) }
+        ensures few { (B.history self.new.bus).accesses ≤ (B.history self.old.bus).accesses + overflow_accesses (geometry self.old).levels }
         ensures hit { Contains (cached_pages self.old.counters) (page_of line) →
             IsQuiet self.new → (next_counter (counter_in (used self.old) line)).line ≢ 0 →
             (B.history self.new.bus).accesses ≤ (B.history self.old.bus).accesses + 1 }
@@ -312,7 +312,7 @@ impl<B: Bus, T: Tagger> LineStore for SealedLines<B, T> {
         ensures used_up { lasting_stop self.old.stopped ≡ None → IsQuiet self.new →
             counter_in (used self.old) line ≡ last_counter self.old.limit →
             (result_err result ≢ None) × IsUnsealed B.history self.old self.new × SameCounters self.old self.new
-            × ((B.history self.new.bus).accesses ≤ (B.history self.old.bus).accesses + counter_accesses (levels self.old)) }
+            × ((B.history self.new.bus).accesses ≤ (B.history self.old.bus).accesses + counter_accesses (geometry self.old).levels) }
         ensures spent_stays { (page : ℕ) → result ≡ Err (Spent page) → (page ≡ page_of line)
             × (contents self.new ≡ contents self.old) × IsUnsealed B.history self.old self.new }
 
@@ -370,9 +370,9 @@ fn read_at<B: Bus, T: Tagger>(
     counters: &mut Counters,
     line: u32,
 ) -> Result<[u8; 64], MemStop>
-    requires inside { line < line_count outside.old.engine.levels }
-    requires levels { counters.old.tree.levels ≡ outside.old.engine.levels }
-    requires pages { AreOfPages outside.old.engine.levels counters.old }
+    requires inside { line < line_count outside.old.engine.geometry }
+    requires geometry { counters.old.tree.geometry ≡ outside.old.engine.geometry }
+    requires pages { AreOfPages outside.old.engine.geometry counters.old }
     requires consistent { AreConsistent (terms_of B.history B.moved T.data_tag_of T.node_tag_of outside.old) outside.old }
     requires holds_last { HaveLast (terms_of B.history B.moved T.data_tag_of T.node_tag_of outside.old) outside.old }
     requires nodes_hold_last { HaveLastNodes (terms_of B.history B.moved T.data_tag_of T.node_tag_of outside.old) outside.old }
@@ -384,7 +384,7 @@ fn read_at<B: Bus, T: Tagger>(
     ensures read { IsLineRead (terms_of B.history B.moved T.data_tag_of T.node_tag_of outside.old) line
         outside.old counters.old outside.new counters.new result }
     ensures cached { OnOk result (Contains (cached_pages counters.new) (page_of line)) }
-    ensures pages { AreOfPages outside.old.engine.levels counters.new }
+    ensures pages { AreOfPages outside.old.engine.geometry counters.new }
 {
     let block = outside.get(counters, page_of(line))?;
     outside.read(line, block.get(place_of(line)))
@@ -399,9 +399,9 @@ fn write_next<B: Bus, T: Tagger>(
     line: u32,
     bytes: &[u8; 64],
 ) -> Result<(), MemStop>
-    requires inside { line < line_count outside.old.engine.levels }
-    requires levels { counters.old.tree.levels ≡ outside.old.engine.levels }
-    requires pages { AreOfPages outside.old.engine.levels counters.old }
+    requires inside { line < line_count outside.old.engine.geometry }
+    requires geometry { counters.old.tree.geometry ≡ outside.old.engine.geometry }
+    requires pages { AreOfPages outside.old.engine.geometry counters.old }
     requires consistent { AreConsistent (terms_of B.history B.moved T.data_tag_of T.node_tag_of outside.old) outside.old }
     requires holds_last { HaveLast (terms_of B.history B.moved T.data_tag_of T.node_tag_of outside.old) outside.old }
     requires nodes_hold_last { HaveLastNodes (terms_of B.history B.moved T.data_tag_of T.node_tag_of outside.old) outside.old }
@@ -414,13 +414,13 @@ fn write_next<B: Bus, T: Tagger>(
     ensures written { IsWrite (terms_of B.history B.moved T.data_tag_of T.node_tag_of outside.old) limit line bytes.now
         outside.old counters.old outside.new counters.new (result_err result) }
     ensures cached { lasting_stop (result_err result) ≡ None → Contains (cached_pages counters.new) (page_of line) }
-    ensures pages { AreOfPages outside.old.engine.levels counters.new }
+    ensures pages { AreOfPages outside.old.engine.geometry counters.new }
     ensures accepted { Accepts outside.old outside.new
         (IsAcceptedInWrite line outside.old.pads.used outside.new.pads.used outside.new.engine.made) }
     ensures once { outside.new.engine.evidence ≡ None → (next_counter (counter_in outside.old.pads.used line)).line ≢ 0 →
-        ((B.history outside.new.bus).accesses ≤ (B.history outside.old.bus).accesses + write_accesses outside.old.engine.levels)
+        ((B.history outside.new.bus).accesses ≤ (B.history outside.old.bus).accesses + write_accesses outside.old.engine.geometry.levels)
         × ((other : ℕ) → (B.history outside.new.bus).reads (line_place other) ≡ (B.history outside.old.bus).reads (line_place other)) }
-    ensures few { (B.history outside.new.bus).accesses ≤ (B.history outside.old.bus).accesses + overflow_accesses outside.old.engine.levels }
+    ensures few { (B.history outside.new.bus).accesses ≤ (B.history outside.old.bus).accesses + overflow_accesses outside.old.engine.geometry.levels }
     ensures hit { Contains (cached_pages counters.old) (page_of line) →
         outside.new.engine.evidence ≡ None → (next_counter (counter_in outside.old.pads.used line)).line ≢ 0 →
         (B.history outside.new.bus).accesses ≤ (B.history outside.old.bus).accesses + 1 }

@@ -16,18 +16,18 @@ use Rattle.page_reencrypt.specs.Contents.{counter_in, lines_encrypted}
 use Rattle.page_reencrypt.specs.LineMoves.{overflow_accesses, read_accesses, write_accesses}
 use Rattle.page_reencrypt.specs.SealedLines.{IsBeside, IsUnsealed, SameCounters}
 use Rattle.cache_set.specs.declared.way.Way.{Way}
-use Rattle.secure_memory.specs.SecureRam.{IsQuiet, LineHad, PathHad, SecureRamView, held_lines, levels, used}
+use Rattle.secure_memory.specs.SecureRam.{IsQuiet, LineHad, PathHad, SecureRamView, held_lines, geometry, used}
 
 -- the place of the line, or of a node that is read to have its page's counters
 abbrev pub IsOfLine : {B T : Type 0} → SecureRamView B T → ℕ → Place → Type 0
-IsOfLine memory line place = (place ≡ line_place line) ⊎ IsFetchPlace (levels memory) (page_of line) place
+IsOfLine memory line place = (place ≡ line_place line) ⊎ IsFetchPlace (geometry memory) (page_of line) place
 
 -- The changed line that goes out, if one does:
 
 -- a place that its write may name is that of a node that is read to have its page's counters, or of another line of the page
 abbrev pub IsOfLeaving : {B T : Type 0} → SecureRamView B T → Option Way → Place → Type 0
 IsOfLeaving memory None place = ⊥
-IsOfLeaving memory (Some way) place = IsFetchPlace (levels memory) (page_of way.place) place ⊎ IsBeside way.place place
+IsOfLeaving memory (Some way) place = IsFetchPlace (geometry memory) (page_of way.place) place ⊎ IsBeside way.place place
 
 -- its write is no overflow
 abbrev pub HasNoOverflow : {B T : Type 0} → SecureRamView B T → Option Way → Type 0
@@ -76,9 +76,9 @@ pub record IsLineCall {B T : Type 0} (history : B → BusHistory) (old : SecureR
   pub held : (other : ℕ) → Contains (held_lines new) other → Contains (held_lines old) other ⊎ (other ≡ line)
   -- it is what it takes to have the page's counters and to read the line at most, and of the line that goes out what its write
   -- takes; where that is no overflow, no other line is read
-  pub few : (history new.lines.bus).accesses ≤ (history old.lines.bus).accesses + (leaving_accesses (levels old) out + read_accesses (levels old))
+  pub few : (history new.lines.bus).accesses ≤ (history old.lines.bus).accesses + (leaving_accesses (geometry old).levels out + read_accesses (geometry old).levels)
   pub once : IsQuiet new → HasNoOverflow old out →
-      (history new.lines.bus).accesses ≤ (history old.lines.bus).accesses + (short_accesses (levels old) out + read_accesses (levels old))
+      (history new.lines.bus).accesses ≤ (history old.lines.bus).accesses + (short_accesses (geometry old).levels out + read_accesses (geometry old).levels)
   pub alone : IsQuiet new → HasNoOverflow old out → (other : ℕ) → other ≢ line →
       (history new.lines.bus).reads (line_place other) ≡ (history old.lines.bus).reads (line_place other)
   -- the line was held, or never tagged, or was read from its place, where the call neither stops nor finds evidence; then the

@@ -40,7 +40,7 @@ on_chip_of_page held cached page within = Contains-append_right (map page_of hel
 pub copies_not : {B T : Type 0} (history : B → BusHistory) (memory : SecureRamView B T) (ways : List (List Way)) →
     CopiesHad history memory (record { lines = memory.lines; ways = ways })
 copies_not history memory ways = record {
-  tree_levels = refl;
+  tree_geometry = refl;
   few_blocks = λ few. few;
   few_nodes = λ level few. few;
   blocks = λ quiet page cached. inl cached;
@@ -114,13 +114,13 @@ module _ {B T : Type 0} (history : B → BusHistory) (bus_moved : B → B → Ty
     copies_on moves more came later =
         let before : IsQuiet third → IsQuiet second = was_none (evidence second) (evidence third) more.step.evidence in
         record {
-          tree_levels = later.tree_levels ∙ came.tree_levels;
+          tree_geometry = later.tree_geometry ∙ came.tree_geometry;
           few_blocks = λ few. later.few_blocks (came.few_blocks few);
           few_nodes = λ level few. later.few_nodes level (came.few_nodes level few);
           blocks = λ quiet page cached. block_on page moves more came (before quiet) (later.blocks quiet page cached);
           nodes = λ quiet level index cached.
               read_up_on first.lines.counters.tree second.lines.counters.tree (made first) (made second) level index (history first.lines.bus) (history second.lines.bus) (history third.lines.bus)
-              came.tree_levels moves.step.reads more.step.reads (unmade_before (made first) (made second) moves.step.more moves.step.made)
+              came.tree_geometry moves.step.reads more.step.reads (unmade_before (made first) (made second) moves.step.more moves.step.made)
               (came.nodes (before quiet)) (later.nodes quiet level index cached);
         }
 

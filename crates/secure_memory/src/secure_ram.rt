@@ -18,7 +18,7 @@ ghost use Rattle.page_reencrypt.specs.LineMoves.{ReadMoved, WriteMoved};
 ghost use Rattle.page_reencrypt.specs.SealedLines.{AreNew, AreProtected, LinesFit, enc_key, tag_in};
 ghost use Rattle.cache_set.specs.Cache.{AreApart, copy_at, new_cache};
 ghost use Rattle.line_cache.specs.LineCache.{IsMissed, IsStoppedMiss, brought, leaving, line_sets, most_held, with_changed};
-ghost use Rattle.secure_memory.specs.SecureRam.{IsMoved, IsNumberByCounters, IsNumberUnder, IsQuiet, cached_nodes, cached_pages, contents, evidence, held_lines, levels, lines_of, made, memory_accesses, stopped, used};
+ghost use Rattle.secure_memory.specs.SecureRam.{IsMoved, IsNumberByCounters, IsNumberUnder, IsQuiet, cached_nodes, cached_pages, contents, evidence, held_lines, geometry, lines_of, made, memory_accesses, stopped, used};
 ghost use Rattle.secure_memory.specs.LineCall.{IsLineCall};
 
 use bus_model::Bus;
@@ -35,13 +35,15 @@ use std::marker::Model;
 #[derive(Drop)]
 pub struct SecureRam<B: Bus, T: Tagger> {
     lines: LineCache<SealedLines<B, T>>,
+    // Kept, since each step asks for it.
+    size: u32,
 }
 
 impl<B: Bus, T: Tagger> Model for SecureRam<B, T> {
-    ghost use Rattle.std.specs.Prelude.{◌≡◌, ◌≤◌, None, length};
+    ghost use Rattle.std.specs.Prelude.{◌≡◌, ◌*◌, ◌≤◌, None, length};
     ghost use Rattle.line_cache.specs.LineCache.{most_held};
     ghost use Rattle.page_reencrypt.specs.SealedLines.{LinesFit};
-    ghost use Rattle.secure_memory.specs.SecureRam.{SecureRamView, IsQuiet, held_lines, stopped};
+    ghost use Rattle.secure_memory.specs.SecureRam.{SecureRamView, IsQuiet, held_lines, lines_of, stopped};
 
     ghost Value = { SecureRamView B T };
 
@@ -50,7 +52,8 @@ impl<B: Bus, T: Tagger> Model for SecureRam<B, T> {
     ghost invariant = { λ memory. (memory.lines.stop ≡ memory.lines.store.stopped)
         × (length (held_lines (record { lines = memory.lines.store; ways = memory.lines.lines })) ≤ most_held)
         × (memory.lines.store.stopped ≡ None → memory.lines.store.engine.evidence ≡ None →
-        LinesFit T.data_tag_of T.node_tag_of B.history memory.lines.store) };
+        LinesFit T.data_tag_of T.node_tag_of B.history memory.lines.store)
+        × (memory.size ≡ 64 * lines_of (record { lines = memory.lines.store; ways = memory.lines.lines })) };
 }
 
 impl<B: Bus, T: Tagger> SecureRam<B, T> {
@@ -64,7 +67,7 @@ impl<B: Bus, T: Tagger> SecureRam<B, T> {
         geometry: Geometry,
         page_limit: u64,
     ) -> Result<SecureRam<B, T>, NoMemoryWith<B>>
-        requires levels { (B.history bus).levels ≡ geometry }
+        requires geometry { (B.history bus).geometry ≡ geometry }
         requires nothing_written { NothingWritten (B.history bus) }
 
         ensures new { IfOk result (λ memory. AreNew bus tagger keys.now.enc_key geometry page_limit memory.lines) }
@@ -77,7 +80,10 @@ impl<B: Bus, T: Tagger> SecureRam<B, T> {
     {
         let lines = SealedLines::boot(alloc, bus, tagger, &keys.enc_key, geometry, page_limit)?;
         match LineCache::new(alloc, lines) {
-            Ok(lines) => Ok(SecureRam { lines }),
+            Ok(lines) => {
+                let size = lines.size();
+                Ok(SecureRam { lines, size })
+            }
             Err(NoMemoryWith(lines)) => {
                 let (_account, bus) = lines.finish();
                 Err(NoMemoryWith(bus))
@@ -126,7 +132,7 @@ impl<B: Bus, T: Tagger> SecureRam<B, T> {
             (IsEvidence (tag_in T.data_tag_of T.node_tag_of self.lines) result.0.made) }
         ensures protected { AreProtected T.data_tag_of T.node_tag_of B.history self.lines }
     {
-        let SecureRam { lines } = self;
+        let SecureRam { lines, size: _ } = self;
         lines.finish().finish()
     }
 }
@@ -148,7 +154,7 @@ impl<B: Bus, T: Tagger> Ram for SecureRam<B, T> {
         IsMoved B.history B.moved (tags_of T.data_tag_of T.node_tag_of) before lines after };
 
     fn size(&self) -> u32 {
-        self.lines.size()
+        self.size
     }
 
     #[inline(always)]
@@ -172,7 +178,7 @@ impl<B: Bus, T: Tagger> Ram for SecureRam<B, T> {
 
         // So many accesses at most, also where it stops. An instruction fetch is a load.
         ensures once { (B.history self.new.lines.bus).accesses
-            ≤ (B.history self.old.lines.bus).accesses + memory_accesses (levels self.old) }
+            ≤ (B.history self.old.lines.bus).accesses + memory_accesses (geometry self.old).levels }
 
         // What it costs, reads and encrypts, and when it stops.
         ensures call { stopped self.old ≡ None → IsLineCall B.history self.old (line_of addr)
@@ -258,7 +264,7 @@ impl<B: Bus, T: Tagger> Ram for SecureRam<B, T> {
 
         // So many accesses at most, also where it stops.
         ensures once { (B.history self.new.lines.bus).accesses
-            ≤ (B.history self.old.lines.bus).accesses + memory_accesses (levels self.old) }
+            ≤ (B.history self.old.lines.bus).accesses + memory_accesses (geometry self.old).levels }
 
         // What it costs, reads and encrypts, and when it stops.
         ensures call { stopped self.old ≡ None → IsLineCall B.history self.old (line_of addr)

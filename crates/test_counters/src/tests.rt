@@ -5,7 +5,7 @@ ghost use Rattle.bus_model.specs.FlipBus.{flip_history};
 
 use counter_cache::Counters;
 use fakes::{Access, CountingBus, PrefixTagger, ZeroTagger};
-use sec_base::{Counter, Evidence, Geometry, MemStop, Place, Tagger};
+use sec_base::{Counter, Evidence, Geometry, Layout, MemStop, Place, Tagger};
 use split_counter::{Bumped, CounterBlock, LAST_LINE_COUNTER};
 use std::alloc::Global;
 use std::process::Abort;
@@ -19,9 +19,9 @@ struct Memory<T: Tagger> {
     bus: CountingBus,
     tags: TagEngine<T>,
     counters: Counters,
-    ghost bus_fits: { (flip_history bus).levels ≡ geometry },
-    ghost engine_fits: { tags.levels ≡ geometry },
-    ghost counters_fit: { counters.tree.levels ≡ geometry },
+    ghost bus_fits: { (flip_history bus).geometry ≡ geometry },
+    ghost engine_fits: { tags.geometry ≡ geometry },
+    ghost counters_fit: { counters.tree.geometry ≡ geometry },
 }
 
 impl<T: Tagger> Memory<T> {
@@ -96,6 +96,7 @@ impl<T: Tagger> Memory<T> {
 fn flipped<T: Tagger>(
     alloc: Global,
     tagger: T,
+    layout: Layout,
     levels: u8,
     page: u32,
     k: u64,
@@ -103,7 +104,7 @@ fn flipped<T: Tagger>(
 ) -> Result<Memory<T>, Fail>
     requires { offset < 64 }
 {
-    let geometry = Geometry::new(levels).ok_or("no geometry")?;
+    let geometry = Geometry::with(layout, levels).ok_or("no geometry")?;
     let place = Place::Node {
         level: 0,
         index: page,
@@ -120,8 +121,8 @@ fn flipped<T: Tagger>(
 }
 
 // Booted over a bus that tells the truth.
-fn honest(alloc: Global, levels: u8) -> Result<Memory<PrefixTagger>, Fail> {
-    flipped(alloc, PrefixTagger, levels, 0, 0, 0)
+fn honest(alloc: Global, layout: Layout, levels: u8) -> Result<Memory<PrefixTagger>, Fail> {
+    flipped(alloc, PrefixTagger, layout, levels, 0, 0, 0)
 }
 
 // The counters of a page whose line at place 0 was written so often, and no other: byte 8 has the line counter of place 0.
@@ -130,6 +131,9 @@ fn written(writes: u8) -> CounterBlock {
     bytes[8] = writes;
     CounterBlock::from_bytes(&bytes)
 }
+
+// Each layout with so many levels that a memory has 64 pages: more than have copies, while the nodes above them all have one.
+const SMALL: [(Layout, u8); 2] = [(Layout::One, 3), (Layout::Two, 2)];
 
 fn zero_after_boot<T: Tagger>(rt: &impl Abort, memory: &mut Memory<T>) {
     for page in 0..memory.geometry.pages() {
@@ -141,12 +145,14 @@ fn zero_after_boot<T: Tagger>(rt: &impl Abort, memory: &mut Memory<T>) {
 // Over a bus that refuses each access.
 #[test]
 fn all_counters_are_zero_after_boot_without_an_access(rt: HostRuntime) -> Result<(), Fail> {
-    for levels in 1..=4u8 {
-        let mut memory = honest(rt.alloc(), levels)?;
-        assert_eq!(rt; memory.accesses(), 0);
-        memory.bus.refuse_after(0);
-        zero_after_boot(&rt, &mut memory);
-        assert_eq!(rt; memory.finish(), (0, None));
+    for (layout, most) in [(Layout::One, 4), (Layout::Two, 3)] {
+        for levels in 1..=most {
+            let mut memory = honest(rt.alloc(), layout, levels)?;
+            assert_eq!(rt; memory.accesses(), 0);
+            memory.bus.refuse_after(0);
+            zero_after_boot(&rt, &mut memory);
+            assert_eq!(rt; memory.finish(), (0, None));
+        }
     }
     Ok(())
 }
@@ -172,8 +178,35 @@ fn bump_one_line<T: Tagger>(rt: &impl Abort, memory: &mut Memory<T>) {
 
 #[test]
 fn a_bump_counts_one_write_of_one_line(rt: HostRuntime) -> Result<(), Fail> {
-    let mut memory = honest(rt.alloc(), 2)?;
-    bump_one_line(&rt, &mut memory);
+    for layout in [Layout::One, Layout::Two] {
+        let mut memory = honest(rt.alloc(), layout, 2)?;
+        bump_one_line(&rt, &mut memory);
+    }
+    Ok(())
+}
+
+// The last page and the one before it.
+fn bump_last<T: Tagger>(rt: &impl Abort, memory: &mut Memory<T>, last: u32) {
+    assert_eq!(rt; memory.geometry.pages().saturating_sub(1), last);
+    memory.write(rt, last, 1);
+    memory.write(rt, last, 2);
+    memory.holds(rt, last, 2, 0);
+    memory.holds(rt, last.saturating_sub(1), 0, 0);
+}
+
+#[test]
+fn the_last_page_counts_its_writes(rt: HostRuntime) -> Result<(), Fail> {
+    let rows = [
+        (Layout::One, 1, 3),
+        (Layout::One, 3, 63),
+        (Layout::Two, 1, 7),
+        (Layout::Two, 2, 63),
+        (Layout::Two, 3, 511),
+    ];
+    for (layout, levels, last) in rows {
+        let mut memory = honest(rt.alloc(), layout, levels)?;
+        bump_last(&rt, &mut memory, last);
+    }
     Ok(())
 }
 
@@ -193,8 +226,10 @@ fn raise_page<T: Tagger>(rt: &impl Abort, memory: &mut Memory<T>) {
 
 #[test]
 fn the_next_write_after_127_raises_the_page_counter(rt: HostRuntime) -> Result<(), Fail> {
-    let mut memory = honest(rt.alloc(), 1)?;
-    raise_page(&rt, &mut memory);
+    for layout in [Layout::One, Layout::Two] {
+        let mut memory = honest(rt.alloc(), layout, 1)?;
+        raise_page(&rt, &mut memory);
+    }
     Ok(())
 }
 
@@ -210,8 +245,10 @@ fn spend<T: Tagger>(rt: &impl Abort, memory: &mut Memory<T>) {
 
 #[test]
 fn a_line_at_the_limit_is_spent(rt: HostRuntime) -> Result<(), Fail> {
-    let mut memory = honest(rt.alloc(), 1)?;
-    spend(&rt, &mut memory);
+    for layout in [Layout::One, Layout::Two] {
+        let mut memory = honest(rt.alloc(), layout, 1)?;
+        spend(&rt, &mut memory);
+    }
     Ok(())
 }
 
@@ -237,8 +274,15 @@ fn go_out<T: Tagger>(rt: &impl Abort, memory: &mut Memory<T>) {
 
 #[test]
 fn a_block_that_went_out_is_read_once(rt: HostRuntime) -> Result<(), Fail> {
-    for levels in [3, 4, 5u8] {
-        let mut memory = honest(rt.alloc(), levels)?;
+    let shapes = [
+        (Layout::One, 3),
+        (Layout::One, 4),
+        (Layout::One, 5),
+        (Layout::Two, 2),
+        (Layout::Two, 3),
+    ];
+    for (layout, levels) in shapes {
+        let mut memory = honest(rt.alloc(), layout, levels)?;
         read_once(&rt, &mut memory);
         assert_eq!(rt; memory.finish(), (1, None));
     }
@@ -260,9 +304,11 @@ fn push_out<T: Tagger>(rt: &impl Abort, memory: &mut Memory<T>) {
 
 #[test]
 fn a_changed_block_is_written_when_it_goes_out(rt: HostRuntime) -> Result<(), Fail> {
-    let mut memory = honest(rt.alloc(), 3)?;
-    push_out(&rt, &mut memory);
-    assert_eq!(rt; memory.finish(), (2, None));
+    for (layout, levels) in SMALL {
+        let mut memory = honest(rt.alloc(), layout, levels)?;
+        push_out(&rt, &mut memory);
+        assert_eq!(rt; memory.finish(), (2, None));
+    }
     Ok(())
 }
 
@@ -298,6 +344,7 @@ fn follow<T: Tagger>(rt: &impl Abort, memory: &mut Memory<T>, pages: &[u32], cal
 fn follow_anew(
     rt: &impl Abort,
     alloc: Global,
+    layout: Layout,
     levels: u8,
     pages: &[u32],
     calls: u32,
@@ -305,7 +352,7 @@ fn follow_anew(
     requires some { 0 < length pages.now }
     requires few { length pages.now ≤ 6 }
 {
-    let mut memory = honest(alloc, levels)?;
+    let mut memory = honest(alloc, layout, levels)?;
     follow(rt, &mut memory, pages, calls);
     Ok(memory.accesses())
 }
@@ -314,7 +361,7 @@ fn follow_anew(
 #[test]
 fn five_calls_on_few_pages_make_no_access(rt: HostRuntime) -> Result<(), Fail> {
     for calls in 0..6u32.pow(5) {
-        let accesses = follow_anew(&rt, rt.alloc(), 1, &[0, 1, 2], calls)?;
+        let accesses = follow_anew(&rt, rt.alloc(), Layout::One, 1, &[0, 1, 2], calls)?;
         assert_eq!(rt; (calls, accesses), (calls, 0));
     }
     Ok(())
@@ -326,7 +373,8 @@ fn five_calls_on_few_pages_make_no_access(rt: HostRuntime) -> Result<(), Fail> {
 fn five_calls_that_evict_are_those_of_a_list_of_counts(rt: HostRuntime) -> Result<(), Fail> {
     let mut accesses = 0u64;
     for calls in 0..1_296u32 {
-        let more = follow_anew(&rt, rt.alloc(), 3, &[0, 16, 32], 6 * calls + 3)?;
+        let calls = 6 * calls + 3;
+        let more = follow_anew(&rt, rt.alloc(), Layout::One, 3, &[0, 16, 32], calls)?;
         accesses = accesses.saturating_add(more);
     }
     assert_eq!(rt; accesses, 3_922);
@@ -368,15 +416,27 @@ fn in_no_order<T: Tagger>(
     (total, greatest)
 }
 
-// At two levels all blocks stay on the chip. In trees of four levels and more nodes go out as well.
+// In a memory of 16 pages or fewer all blocks stay on the chip. Where level 1 has more than 16 nodes, nodes go out as well.
 #[test]
 fn calls_in_no_order_are_those_of_a_list_of_counts(rt: HostRuntime) -> Result<(), Fail> {
-    for (levels, in_all, most) in [(2, 0, 0), (3, 752, 2), (4, 2289, 6), (5, 3551, 11)] {
-        let mut memory = honest(rt.alloc(), levels)?;
+    let rows = [
+        (Layout::One, 2, 0, 0),
+        (Layout::One, 3, 752, 2),
+        (Layout::One, 4, 2289, 6),
+        (Layout::One, 5, 3551, 11),
+        (Layout::Two, 1, 0, 0),
+        (Layout::Two, 2, 752, 2),
+        (Layout::Two, 3, 2226, 6),
+    ];
+    for (layout, levels, in_all, most) in rows {
+        let mut memory = honest(rt.alloc(), layout, levels)?;
         let pages = memory.geometry.pages();
         let mut writes = vec![in rt.alloc(); 0u8; pages as usize]?;
         let accesses = in_no_order(&rt, &mut memory, writes.as_mut_slice());
-        assert_eq!(rt; (levels, accesses), (levels, (in_all, most)));
+        assert_eq!(rt;
+            (layout, levels, accesses),
+            (layout, levels, (in_all, most))
+        );
     }
     Ok(())
 }
@@ -405,7 +465,7 @@ fn refuse<T: Tagger>(rt: &impl Abort, memory: &mut Memory<T>, most: u64, bumps: 
 fn each_access_that_is_refused_is_want_of_memory(rt: HostRuntime) -> Result<(), Fail> {
     for most in 0..4u64 {
         for bumps in [false, true] {
-            let mut memory = honest(rt.alloc(), 4)?;
+            let mut memory = honest(rt.alloc(), Layout::One, 4)?;
             refuse(&rt, &mut memory, most, bumps);
             let (_, evidence) = memory.finish();
             assert_eq!(rt; (most, evidence), (most, None));
@@ -421,20 +481,21 @@ fn false_block<T: Tagger>(
     rt: &impl Abort,
     alloc: Global,
     tagger: T,
+    shape: (Layout, u8),
     offset: u8,
 ) -> Result<Memory<T>, Fail>
     requires { offset < 64 }
 {
-    let mut memory = flipped(alloc, tagger, 3, 0, 1, offset)?;
+    let mut memory = flipped(alloc, tagger, shape.0, shape.1, 0, 1, offset)?;
     go_out(rt, &mut memory);
     Ok(memory)
 }
 
 // It is read again, and then the bus tells the truth.
-fn flipped_get(rt: &impl Abort, alloc: Global, offset: u8) -> Result<(), Fail>
+fn flipped_get(rt: &impl Abort, alloc: Global, shape: (Layout, u8), offset: u8) -> Result<(), Fail>
     requires { offset < 64 }
 {
-    let mut memory = false_block(rt, alloc, PrefixTagger, offset)?;
+    let mut memory = false_block(rt, alloc, PrefixTagger, shape, offset)?;
     assert_eq!(rt; (offset, memory.get(rt, 0)), (offset, Err(TAMPERED)));
     assert_eq!(rt; (offset, memory.bus.lies()), (offset, 1));
     assert_eq!(rt; (offset, memory.get(rt, 0)), (offset, Ok(written(1))));
@@ -442,22 +503,30 @@ fn flipped_get(rt: &impl Abort, alloc: Global, offset: u8) -> Result<(), Fail>
     Ok(())
 }
 
-fn flipped_bump(rt: &impl Abort, alloc: Global, offset: u8) -> Result<(), Fail>
+fn flipped_bump(rt: &impl Abort, alloc: Global, shape: (Layout, u8), offset: u8) -> Result<(), Fail>
     requires { offset < 64 }
 {
-    let mut memory = false_block(rt, alloc, PrefixTagger, offset)?;
+    let mut memory = false_block(rt, alloc, PrefixTagger, shape, offset)?;
     assert_eq!(rt; (offset, memory.bump(rt, 0, 0, 0)), (offset, Err(TAMPERED)));
     assert_eq!(rt; (offset, memory.accesses()), (offset, 1));
     assert_eq!(rt; (offset, memory.finish()), (offset, (1, None)));
     Ok(())
 }
 
-// Of byte 9 the tag has all bits but the lowest, which is set in every tag.
+// A tag of layout One covers a block's first ten bytes, and one of layout Two its first two: of the last of them all bits but the
+// lowest, which is set in every tag.
 #[test]
 fn a_flipped_counter_is_tampering(rt: HostRuntime) -> Result<(), Fail> {
-    for offset in [0, 7, 8] {
-        flipped_get(&rt, rt.alloc(), offset)?;
-        flipped_bump(&rt, rt.alloc(), offset)?;
+    let rows = [
+        ((Layout::One, 3), 0),
+        ((Layout::One, 3), 7),
+        ((Layout::One, 3), 8),
+        ((Layout::Two, 2), 0),
+        ((Layout::Two, 3), 0),
+    ];
+    for (shape, offset) in rows {
+        flipped_get(&rt, rt.alloc(), shape, offset)?;
+        flipped_bump(&rt, rt.alloc(), shape, offset)?;
     }
     Ok(())
 }
@@ -467,12 +536,13 @@ fn passes<T: Tagger>(
     rt: &impl Abort,
     alloc: Global,
     tagger: T,
+    shape: (Layout, u8),
     offset: u8,
     tag: [u8; 16],
 ) -> Result<(), Fail>
     requires { offset < 64 }
 {
-    let mut memory = false_block(rt, alloc, tagger, offset)?;
+    let mut memory = false_block(rt, alloc, tagger, shape, offset)?;
     let mut accepted = written(1).to_bytes();
     accepted[offset as usize] ^= 1;
     let block = CounterBlock::from_bytes(&accepted);
@@ -492,12 +562,28 @@ fn passes<T: Tagger>(
     Ok(())
 }
 
-// All tags of one tagger are alike, and that of the other leaves out the lowest bit of byte 9.
+// All tags of one tagger are alike, and that of the other leaves out the lowest bit of byte 9, or of byte 1 under layout Two, and all
+// bytes behind it.
 #[test]
 fn a_block_that_passes_is_used_and_shown(rt: HostRuntime) -> Result<(), Fail> {
     let alike = [0, 0, 0, 0, 0, 0, 0, 0, 0, 0, 0, 0, 0, 0, 0, 1];
     let of_bytes = [0x4e, 0, 0, 0, 0, 0, 0, 0, 0, 0, 0, 0, 0, 0, 1, 1];
-    passes(&rt, rt.alloc(), ZeroTagger, 8, alike)?;
-    passes(&rt, rt.alloc(), ZeroTagger, 0, alike)?;
-    passes(&rt, rt.alloc(), PrefixTagger, 9, of_bytes)
+    let one = (Layout::One, 3);
+    passes(&rt, rt.alloc(), ZeroTagger, one, 8, alike)?;
+    passes(&rt, rt.alloc(), ZeroTagger, one, 0, alike)?;
+    passes(&rt, rt.alloc(), PrefixTagger, one, 9, of_bytes)
+}
+
+#[test]
+fn a_block_that_passes_under_layout_two_is_used_and_shown(rt: HostRuntime) -> Result<(), Fail> {
+    let alike = [0, 0, 0, 0, 0, 0, 0, 1, 0, 0, 0, 0, 0, 0, 0, 0];
+    let of_bytes = [0x4e, 0, 0, 0, 0, 0, 0, 1, 0, 0, 0, 0, 0, 0, 0, 0];
+    passes(&rt, rt.alloc(), ZeroTagger, (Layout::Two, 2), 0, alike)?;
+    for levels in [2, 3u8] {
+        for offset in [1, 2, 8, 63u8] {
+            let shape = (Layout::Two, levels);
+            passes(&rt, rt.alloc(), PrefixTagger, shape, offset, of_bytes)?;
+        }
+    }
+    Ok(())
 }

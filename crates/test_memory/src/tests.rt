@@ -1,13 +1,14 @@
 // The memory over a bus that tells the truth and over one that does not. Accesses were counted by an independent model in Python.
 ghost use Rattle.std.specs.Prelude.{◌≡◌, ◌+◌, ◌*◌, ◌%◌, ◌^◌, ◌<◌, ◌≤◌, IfOk};
-ghost use Rattle.sec_base.specs.Place.{place_size};
+ghost use Rattle.sec_base.specs.Geometry.{one};
+ghost use Rattle.sec_base.specs.Place.{stored_size};
 ghost use Rattle.bus_model.specs.BusHistory.{new_history};
 ghost use Rattle.secure_memory.specs.SecureRam.{lines_of};
 
 use bus_model::{Bus, FlipBus, HonestBus};
 use fakes::CountingBus;
 use hmac_tag::{HmacTagger, derive};
-use sec_base::{Geometry, MemStop, Place, Ram, Width};
+use sec_base::{Geometry, Layout, MemStop, Place, Ram, Width};
 use secure_memory::SecureRam;
 use std::alloc::Global;
 use std::process::Abort;
@@ -15,7 +16,7 @@ use std::test::Fail;
 
 // The smallest memory, of 256 lines.
 fn smallest() -> Result<Geometry, Fail>
-    ensures { IfOk result (λ geometry. geometry ≡ 1) }
+    ensures { IfOk result (λ geometry. geometry ≡ one 1) }
 {
     Ok(Geometry::new(1).ok_or("no geometry")?)
 }
@@ -28,7 +29,7 @@ fn over<B: Bus + Drop>(
     page_limit: u64,
 ) -> Result<SecureRam<B, HmacTagger>, Fail>
     requires bus { B.history bus ≡ new_history geometry }
-    requires smallest { geometry ≡ 1 }
+    requires smallest { geometry ≡ one 1 }
     ensures { IfOk result (λ memory. lines_of memory ≡ 256) }
 {
     let keys = derive(&[0; 32]);
@@ -172,37 +173,36 @@ fn the_first_stop_is_answered_again(rt: HostRuntime) -> Result<(), Fail> {
     Ok(())
 }
 
-// A memory of four levels over a bus that flips a bit at the `k`-th read of a place.
+// A memory of at least two MiB over a bus that flips a bit.
 #[derive(Drop)]
 struct Flipped {
     memory: SecureRam<FlipBus, HmacTagger>,
-    ghost large: { 1048576 ≤ 64 * lines_of memory },
+    ghost large: { 2097152 ≤ 64 * lines_of memory },
 }
 
 impl Flipped {
-    fn new(alloc: Global, place: Place, k: u64) -> Result<Flipped, Fail>
-        requires place { 0 < place_size place }
-    {
-        let geometry = Geometry::new(4).ok_or("no geometry")?;
-        let bus = FlipBus::new(alloc, geometry, place, k, 0, 1)?;
+    // The lowest bit of a place's first byte is flipped as it is read for the first time.
+    fn new(alloc: Global, layout: Layout, levels: u8, place: Place) -> Result<Flipped, Fail> {
+        let geometry = Geometry::with(layout, levels).ok_or("no geometry")?;
+        let bus = FlipBus::new(alloc, geometry, place, 1, 0, 1)?;
         let keys = derive(&[0; 32]);
         let tagger = HmacTagger::new(&keys);
         let Ok(memory) = SecureRam::boot(alloc, bus, tagger, &keys, geometry, u64::MAX) else {
             return Err(Fail::from("no memory"));
         };
-        if memory.size() < 1048576 {
+        if memory.size() < 2097152 {
             return Err(Fail::from("small"));
         }
         Ok(Flipped { memory })
     }
 
-    // Loads from lines of pages 32, 64, 96 and 128. They share a set with line 1, their counter blocks with that of page 0, and
-    // the nodes above these with (1, 0). So all three go out, one after another.
-    fn send_out(&mut self) -> Result<(), MemStop> {
-        self.memory.load(64 * 2049, Width::Four)?;
-        self.memory.load(64 * 4097, Width::Four)?;
-        self.memory.load(64 * 6145, Width::Four)?;
-        self.memory.load(64 * 8193, Width::Four)?;
+    // Loads from lines of four pages that are so many apart. They share a set with line 1, their counter blocks with that of page
+    // 0, and the nodes above these with (1, 0). So all three go out, one after another.
+    fn send_out(&mut self, rt: &impl Abort, apart: u32) -> Result<(), MemStop> {
+        assert!(rt; apart <= 64);
+        for at in 1..=4u32 {
+            self.memory.load(4096 * apart * at + 64, Width::Four)?;
+        }
         Ok(())
     }
 }
@@ -211,18 +211,23 @@ impl Flipped {
 // them. The last load reads each of the three for the first time.
 #[test]
 fn a_flipped_bit_is_tampering(rt: HostRuntime) -> Result<(), Fail> {
+    let block = Place::Node { level: 0, index: 0 };
+    let node = Place::Node { level: 1, index: 0 };
     let rows = [
-        Place::Line(1),
-        Place::Node { level: 0, index: 0 },
-        Place::Node { level: 1, index: 0 },
+        (Layout::One, 5, 32, Place::Line(1)),
+        (Layout::One, 5, 32, block),
+        (Layout::One, 5, 32, node),
+        (Layout::Two, 3, 64, Place::Line(1)),
+        (Layout::Two, 3, 64, block),
+        (Layout::Two, 3, 64, node),
     ];
-    for place in rows {
-        let mut flipped = Flipped::new(rt.alloc(), place, 1)?;
+    for (layout, levels, apart, place) in rows {
+        let mut flipped = Flipped::new(rt.alloc(), layout, levels, place)?;
         assert_eq!(rt; flipped.memory.store(64, Width::Four, 7), Ok(()), "{place}");
         assert!(rt; flipped.memory.held(1), "{place}");
         assert_eq!(rt; flipped.memory.held_count(), 1, "{place}");
         assert_eq!(rt; flipped.memory.load(64, Width::Four), Ok(7), "{place}");
-        assert_eq!(rt; flipped.send_out(), Ok(()), "{place}");
+        assert_eq!(rt; flipped.send_out(&rt, apart), Ok(()), "{place}");
         assert!(rt; !flipped.memory.held(1), "{place}");
         assert_eq!(rt; flipped.memory.held_count(), 2, "{place}");
         let tampered = MemStop::Tampered(place);
@@ -252,8 +257,8 @@ struct Counted {
 
 impl Counted {
     // Over a bus that refuses one access, by its number from 1 on.
-    fn new(alloc: Global, levels: u8, refused: u64) -> Result<Counted, Fail> {
-        let geometry = Geometry::new(levels).ok_or("no geometry")?;
+    fn new(alloc: Global, layout: Layout, levels: u8, refused: u64) -> Result<Counted, Fail> {
+        let geometry = Geometry::with(layout, levels).ok_or("no geometry")?;
         let bus = CountingBus::refusing(alloc, geometry, refused)?;
         let keys = derive(&[0; 32]);
         let tagger = HmacTagger::new(&keys);
@@ -284,7 +289,7 @@ impl Counted {
         ensures inside { result + 4 ≤ 64 * lines_of self.now.memory }
         ensures aligned { result % 4 ≡ 0 }
     {
-        assert!(rt; page < 4096);
+        assert!(rt; page < 65536);
         let addr = 4096 * page + 320;
         assert!(rt; addr % 4 == 0);
         assert!(rt; addr + 4 <= self.memory.size());
@@ -307,7 +312,7 @@ impl Counted {
         stores: u32,
         loads: u32,
     ) -> Result<(), MemStop> {
-        assert!(rt; apart <= 1024);
+        assert!(rt; apart <= 16384);
         for value in 0..stores {
             for at in 0..4 {
                 let addr = self.line_at(rt, apart * at);
@@ -325,8 +330,8 @@ impl Counted {
 }
 
 // How many accesses so many stores and a load make in all.
-fn accesses(alloc: Global, levels: u8, stores: u32) -> Result<u64, Fail> {
-    let mut counted = Counted::new(alloc, levels, 0)?;
+fn accesses(alloc: Global, layout: Layout, levels: u8, stores: u32) -> Result<u64, Fail> {
+    let mut counted = Counted::new(alloc, layout, levels, 0)?;
     counted.store(stores).ok().ok_or("a store is refused")?;
     counted.load().ok().ok_or("the load is refused")?;
     let Counted { memory } = counted;
@@ -337,8 +342,17 @@ fn accesses(alloc: Global, levels: u8, stores: u32) -> Result<u64, Fail> {
 // The first access of a bus that refuses it would be a stop.
 #[test]
 fn a_load_of_a_line_that_was_never_written_makes_no_access(rt: HostRuntime) -> Result<(), Fail> {
-    for (levels, pages) in [(1, 4), (2, 16), (3, 64), (4, 256)] {
-        let mut counted = Counted::new(rt.alloc(), levels, 1)?;
+    let rows = [
+        (Layout::One, 1, 4),
+        (Layout::One, 2, 16),
+        (Layout::One, 3, 64),
+        (Layout::One, 4, 256),
+        (Layout::Two, 1, 8),
+        (Layout::Two, 2, 64),
+        (Layout::Two, 3, 512),
+    ];
+    for (layout, levels, pages) in rows {
+        let mut counted = Counted::new(rt.alloc(), layout, levels, 1)?;
         counted.load_zeros(&rt, pages);
         let Counted { memory } = counted;
         assert_eq!(rt; memory.stopped(), None, "{levels} levels");
@@ -349,15 +363,23 @@ fn a_load_of_a_line_that_was_never_written_makes_no_access(rt: HostRuntime) -> R
     Ok(())
 }
 
+fn assert_accesses(rt: &impl Abort, alloc: Global, layout: Layout, levels: u8) -> Result<(), Fail> {
+    for (stores, made) in [(0, 0), (1, 2), (2, 4), (127, 254), (128, 256 + 63)] {
+        let accesses = accesses(alloc, layout, levels, stores)?;
+        assert_eq!(rt; accesses, made, "{stores} stores at {levels} of {layout:?}");
+    }
+    Ok(())
+}
+
 // The counters stay on the chip, and so do the nodes above them: a line comes in by its own read, if it was written, and goes
 // out by its own write. In an overflow the other 63 lines, which were never written, are written too.
 #[test]
 fn calls_make_so_many_accesses_at_each_level(rt: HostRuntime) -> Result<(), Fail> {
-    for levels in 1..=6u8 {
-        for (stores, made) in [(0, 0), (1, 2), (2, 4), (127, 254), (128, 256 + 63)] {
-            let accesses = accesses(rt.alloc(), levels, stores)?;
-            assert_eq!(rt; accesses, made, "{stores} stores at {levels}");
-        }
+    for levels in 1..=8u8 {
+        assert_accesses(&rt, rt.alloc(), Layout::One, levels)?;
+    }
+    for levels in 1..=5u8 {
+        assert_accesses(&rt, rt.alloc(), Layout::Two, levels)?;
     }
     Ok(())
 }
@@ -366,12 +388,12 @@ fn calls_make_so_many_accesses_at_each_level(rt: HostRuntime) -> Result<(), Fail
 fn rounds(
     rt: &impl Abort,
     alloc: Global,
-    levels: u8,
+    geometry: (Layout, u8),
     apart: u32,
     stores: u32,
     loads: u32,
 ) -> Result<u64, Fail> {
-    let mut counted = Counted::new(alloc, levels, 0)?;
+    let mut counted = Counted::new(alloc, geometry.0, geometry.1, 0)?;
     counted
         .go_round(rt, apart, stores, loads)
         .ok()
@@ -382,28 +404,43 @@ fn rounds(
 }
 
 // Each of the four lines pushes out another one, and with it the counter block of that line's page and the nodes above it, but
-// for those of the three highest levels, which have room for all. Loads of what was never written make no access. Three rounds of
+// for those of the highest levels, which have room for all. Loads of what was never written make no access. Three rounds of
 // stores make so many; and from then on, where all of them are changed, a call writes and reads as many as it must; where none is,
 // it reads the path as far as it is gone, and the line.
 #[test]
 fn calls_over_distant_pages_make_so_many_accesses(rt: HostRuntime) -> Result<(), Fail> {
     let rows = [
-        (1, 1, 18, 2, 1),
-        (2, 4, 18, 2, 1),
-        (3, 16, 41, 5, 2),
-        (4, 64, 64, 8, 3),
-        (5, 256, 91, 12, 4),
-        (6, 1024, 118, 16, 5),
+        ((Layout::One, 1), 1, 18, 2u64, 1u64),
+        ((Layout::One, 2), 4, 18, 2, 1),
+        ((Layout::One, 3), 16, 41, 5, 2),
+        ((Layout::One, 4), 64, 64, 8, 3),
+        ((Layout::One, 5), 256, 91, 12, 4),
+        ((Layout::One, 6), 1024, 118, 16, 5),
+        ((Layout::One, 7), 4096, 140, 20, 6),
+        ((Layout::One, 8), 16384, 165, 25, 7),
+        ((Layout::Two, 1), 2, 18, 2, 1),
+        ((Layout::Two, 2), 16, 41, 5, 2),
+        ((Layout::Two, 3), 128, 64, 8, 3),
+        ((Layout::Two, 4), 1024, 91, 12, 4),
+        ((Layout::Two, 5), 8192, 118, 16, 5),
     ];
-    for (levels, apart, thrice, store, load) in rows {
-        let fresh = rounds(&rt, rt.alloc(), levels, apart, 0, 2)?;
-        let stored = rounds(&rt, rt.alloc(), levels, apart, 3, 0)?;
-        assert_eq!(rt; (fresh, stored), (0, thrice), "{levels}");
-        let once_more = rounds(&rt, rt.alloc(), levels, apart, 4, 0)?;
-        assert_eq!(rt; stored.saturating_add(4 * store), once_more, "{levels}");
-        let loaded = rounds(&rt, rt.alloc(), levels, apart, 4, 3)?;
-        let once_more = rounds(&rt, rt.alloc(), levels, apart, 4, 4)?;
-        assert_eq!(rt; loaded.saturating_add(4 * load), once_more, "{levels}");
+    for (geometry, apart, thrice, store, load) in rows {
+        let fresh = rounds(&rt, rt.alloc(), geometry, apart, 0, 2)?;
+        let stored = rounds(&rt, rt.alloc(), geometry, apart, 3, 0)?;
+        assert_eq!(rt; (fresh, stored), (0, thrice), "{geometry:?}");
+        let once_more = rounds(&rt, rt.alloc(), geometry, apart, 4, 0)?;
+        assert_eq!(rt;
+            stored.saturating_add(store.saturating_mul(4)),
+            once_more,
+            "{geometry:?}"
+        );
+        let loaded = rounds(&rt, rt.alloc(), geometry, apart, 4, 4)?;
+        let once_more = rounds(&rt, rt.alloc(), geometry, apart, 4, 5)?;
+        assert_eq!(rt;
+            loaded.saturating_add(load.saturating_mul(4)),
+            once_more,
+            "{geometry:?}"
+        );
     }
     Ok(())
 }
@@ -412,7 +449,7 @@ fn calls_over_distant_pages_make_so_many_accesses(rt: HostRuntime) -> Result<(),
 #[test]
 fn out_of_memory_a_line_is_written_in_part(rt: HostRuntime) -> Result<(), Fail> {
     for (refused, before, entries) in [(1, 0, 1), (2, 1, 1), (3, 1, 2), (4, 2, 2)] {
-        let mut counted = Counted::new(rt.alloc(), 1, refused)?;
+        let mut counted = Counted::new(rt.alloc(), Layout::One, 1, refused)?;
         assert_eq!(rt; counted.store(before), Ok(()), "access {refused}");
         assert_eq!(rt;
             counted.store(1),
@@ -433,7 +470,7 @@ fn out_of_memory_a_line_is_written_in_part(rt: HostRuntime) -> Result<(), Fail> 
 // The line goes out once, and is read once as it comes back.
 #[test]
 fn a_line_that_is_held_makes_no_access(rt: HostRuntime) -> Result<(), Fail> {
-    let mut counted = Counted::new(rt.alloc(), 1, 0)?;
+    let mut counted = Counted::new(rt.alloc(), Layout::One, 1, 0)?;
     assert_eq!(rt; counted.store(1), Ok(()));
     assert_eq!(rt; counted.load(), Ok(0));
     assert_eq!(rt; counted.memory.store(320, Width::Four, 2), Ok(()));

@@ -1,6 +1,7 @@
 // A bit that is flipped at one read of one place.
 ghost use Rattle.std.specs.Prelude.{◌<◌};
-ghost use Rattle.sec_base.specs.Place.{place_size};
+ghost use Rattle.sec_base.specs.Geometry.{one};
+ghost use Rattle.sec_base.specs.Place.{stored_size};
 
 use page_cases::{Memory, NodesAlike, SomeBytes, booted, flipped};
 use sec_base::{Evidence, MemStop, Place};
@@ -114,7 +115,7 @@ fn a_flipped_bit_is_tampering_that_stays_or_evidence(rt: HostRuntime) -> Result<
 // Line 69, at place 5 of page 1, was written once. Then lines of pages 33, 65 and 97 are read, which were never written: the
 // counter block of page 1 goes out for them, and node (1, 0).
 fn before_a_false_node(alloc: Global, place: Place) -> Result<Memory<SomeBytes>, Fail>
-    requires { 0 < place_size place }
+    requires { 0 < stored_size (one 4) place }
 {
     let mut memory = booted(alloc, SomeBytes, 4, u64::MAX, place, 1, 0)?;
     memory.fill(69, 1).ok().ok_or("line 69 is refused")?;
@@ -131,7 +132,7 @@ fn stays_tampered(
     place: Place,
     in_a_write: bool,
 ) -> Result<(), Fail>
-    requires { 0 < place_size place }
+    requires { 0 < stored_size (one 4) place }
 {
     let mut memory = before_a_false_node(alloc, place)?;
     let first = if in_a_write {
@@ -187,6 +188,7 @@ fn a_flipped_counter_block_that_passes_is_a_collision(rt: HostRuntime) -> Result
     ];
     for (case, offset, wanted) in rows {
         let place = Place::Node { level: 0, index: 1 };
+        let accepted = off_by_a_bit(offset);
         let mut memory = booted(rt.alloc(), NodesAlike, 3, u64::MAX, place, 1, offset)?;
         assert_eq!(rt; memory.fill(72, 3), Ok(()), "{case}");
         assert_eq!(rt; memory.read(64 * 17), Ok([0; 64]), "{case}");
@@ -197,7 +199,7 @@ fn a_flipped_counter_block_that_passes_is_a_collision(rt: HostRuntime) -> Result
             level: 0,
             index: 1,
             made_at: 1,
-            accepted: off_by_a_bit(offset),
+            accepted,
             tag: [0, 0, 0, 0, 0, 0, 0, 0, 0, 0, 0, 0, 0, 0, 0, 1],
         };
         assert_eq!(rt; account.evidence, Some(collision), "{case}");

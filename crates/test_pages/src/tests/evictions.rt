@@ -1,4 +1,8 @@
 // Pages whose counter blocks share a set of two ways: one goes out for another, and comes back.
+ghost use Rattle.std.specs.Prelude.{◌<◌};
+ghost use Rattle.sec_base.specs.Geometry.{one};
+ghost use Rattle.sec_base.specs.Place.{stored_size};
+
 use fakes::CountingBus;
 use page_cases::{Memory, SomeBytes, booted, once};
 use sec_base::{Counter, Geometry, MemStop, Place};
@@ -34,7 +38,9 @@ fn call(memory: &mut Memory<SomeBytes>, count: usize) -> Result<(), MemStop> {
     Ok(())
 }
 
-fn three_levels(alloc: Global, place: Place, k: u64) -> Result<Memory<SomeBytes>, Fail> {
+fn three_levels(alloc: Global, place: Place, k: u64) -> Result<Memory<SomeBytes>, Fail>
+    requires { 0 < stored_size (one 3) place }
+{
     booted(alloc, SomeBytes, 3, u64::MAX, place, k, 0)
 }
 

@@ -60,8 +60,12 @@ fn a_write_that_is_refused_was_done_in_part(rt: HostRuntime) -> Result<(), Fail>
             assert_eq!(rt; stops, [Some(MemStop::NoMemory); 4], "access {refused}");
             let (account, bus) = memory.finish();
             let counts = (account.used.len(), account.made.len(), bus.asked());
-            let used = u64::from(writes) + at - 1;
-            assert_eq!(rt; counts, (used, used + 1, refused), "access {refused}");
+            let made = u64::from(writes).saturating_add(at);
+            assert_eq!(rt;
+                counts,
+                (made.saturating_sub(1), made, refused),
+                "access {refused}"
+            );
         }
     }
     Ok(())

@@ -29,7 +29,7 @@ returns-in_err-block g c =
     (e.idle (subst (λ (p : ℕ). Contains (cached_pages counters) p) (sym c.page_of.ensures.page) cached)).0 in
     let reached : IsReached (terms_of h m d n old) old counters c.get.new.self c.get.new.counters (Some why) = record {
       node = e.step;
-      levels = e.levels;
+      geometry = e.geometry;
       fits = ok_where (Err why) tt e.unspent;
       accounted = e.accounted c.requires.fits;
       shows = e.shows c.requires.fits;
@@ -57,7 +57,7 @@ read-requires-clause-counter g c = λ quiet.
     let e = c.in_ok-block.ensures in
     let got : IsReached (terms_of h m d n old) old counters c.get.new.self c.get.new.counters None = record {
       node = e.step;
-      levels = e.levels;
+      geometry = e.geometry;
       fits = λ going. e.fits c.requires.fits;
       accounted = e.accounted c.requires.fits;
       shows = e.shows c.requires.fits;
@@ -97,7 +97,7 @@ returns g c =
     (e.idle (subst (λ (p : ℕ). Contains (cached_pages counters) p) (sym c.page_of.ensures.page) cached)).0 in
     let got : IsReached (terms_of h m d n old) old counters c.get.new.self c.get.new.counters None = record {
       node = e.step;
-      levels = e.levels;
+      geometry = e.geometry;
       fits = λ going. e.fits c.requires.fits;
       accounted = e.accounted c.requires.fits;
       shows = e.shows c.requires.fits;

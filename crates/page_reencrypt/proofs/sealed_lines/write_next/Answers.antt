@@ -1,6 +1,6 @@
 use Rattle.std.proofs.Common.{◌≡◌, ◌≤◌, ℕ, inl, length, take, Option, Some, None, Contains, Ok, Err, ap, sym, ◌∙◌, subst, arith, rules}
 use Rattle.std.specs.Result.{result_err}
-use Rattle.sec_base.specs.Geometry.{page_of}
+use Rattle.sec_base.specs.Geometry.{GeometryView, page_of}
 use Rattle.sec_base.specs.declared.counter.Counter.{Counter}
 use Rattle.sec_base.specs.declared.evidence.Evidence.TheVariants.{Forgery}
 use Rattle.sec_base.specs.declared.place.Place.{Place}
@@ -40,7 +40,7 @@ returns-in_err-block-clause-written g c =
     let stop : result_err c.from_residual.result ≡ Some why = search rules in
     let reached : IsReached (terms_of h m d n old) old counters c.get.new.self c.get.new.counters (Some why) = record {
       node = e.step;
-      levels = e.levels;
+      geometry = e.geometry;
       fits = ok_where (Err why) tt e.unspent;
       accounted = e.accounted c.requires.fits;
       shows = e.shows c.requires.fits;
@@ -68,7 +68,7 @@ returns-in-Spent-clause-written g c =
     let e = c.in_ok-block.ensures in
     let got : IsReached (terms_of h m d n old) old counters c.get.new.self c.get.new.counters None = record {
       node = e.step;
-      levels = e.levels;
+      geometry = e.geometry;
       fits = λ going. e.fits c.requires.fits;
       accounted = e.accounted c.requires.fits;
       shows = e.shows c.requires.fits;
@@ -102,11 +102,11 @@ returns-in-Spent-clause-written g c =
 
 pub returns-in_err-block-clause-accepted : goal.returns-in_err-block-clause-accepted
 returns-in_err-block-clause-accepted g c = λ at under sealed made_count quiet is.
-    not_node c.args.outside.now.engine.levels c.page_of-page.result at (c.in_err-block.ensures.found (Forgery at under sealed made_count) quiet is)
+    not_node c.args.outside.now.engine.geometry c.page_of-page.result at (c.in_err-block.ensures.found (Forgery at under sealed made_count) quiet is)
 
 pub returns-in-Spent-clause-accepted : goal.returns-in-Spent-clause-accepted
 returns-in-Spent-clause-accepted g c = λ at under sealed made_count quiet is.
-    not_node c.args.outside.now.engine.levels c.page_of-page.result at (c.in_ok-block.ensures.found (Forgery at under sealed made_count) quiet is)
+    not_node c.args.outside.now.engine.geometry c.page_of-page.result at (c.in_ok-block.ensures.found (Forgery at under sealed made_count) quiet is)
 
 pub returns-in_err-block-clause-cached : goal.returns-in_err-block-clause-cached
 returns-in_err-block-clause-cached g c = λ going.
@@ -183,7 +183,7 @@ returns-in_err-reserve g c =
     (e.idle (subst (λ (p : ℕ). Contains (cached_pages counters) p) (sym c.page_of-page.ensures.page) cached)).0 in
     let got : IsReached (terms_of h m d n old) old counters c.get.new.self c.get.new.counters None = record {
       node = e.step;
-      levels = e.levels;
+      geometry = e.geometry;
       fits = λ going. e.fits c.requires.fits;
       accounted = e.accounted c.requires.fits;
       shows = e.shows c.requires.fits;
@@ -226,7 +226,7 @@ returns-in_err-reserve g c =
       cached = λ going. subst (λ (p : ℕ). Contains (cached_pages c.get.new.counters) p) c.page_of-page.ensures.page e.cached;
       pages = e.pages;
       accepted = λ at under sealed made_count quiet is.
-          not_node old.engine.levels c.page_of-page.result at
+          not_node old.engine.geometry c.page_of-page.result at
           (e.found (Forgery at under sealed made_count) quiet (sym (ap (λ e. e.evidence) differs.engine) ∙ is));
       once = λ quiet short. (
         omega (arith, e.once, same_accesses),
@@ -254,7 +254,7 @@ returns-in-Spent-2 g c =
     (e.idle (subst (λ (p : ℕ). Contains (cached_pages counters) p) (sym c.page_of-page.ensures.page) cached)).0 in
     let got : IsReached (terms_of h m d n old) old counters c.get.new.self c.get.new.counters None = record {
       node = e.step;
-      levels = e.levels;
+      geometry = e.geometry;
       fits = λ going. e.fits c.requires.fits;
       accounted = e.accounted c.requires.fits;
       shows = e.shows c.requires.fits;
@@ -275,8 +275,8 @@ returns-in-Spent-2 g c =
     } in
     let same_bus : h c.reserve.new.self.bus ≡ h c.get.new.self.bus =
     ap (λ (o : OutsideView g.row.B.Denot g.row.T.Denot). h o.bus) c.in_ok-reserve.ensures.taken in
-    let same_levels : c.reserve.new.self.engine.levels ≡ old.engine.levels =
-    ap (λ (o : OutsideView g.row.B.Denot g.row.T.Denot). o.engine.levels) c.in_ok-reserve.ensures.taken ∙ e.step.step.levels in
+    let same_geometry : c.reserve.new.self.engine.geometry ≡ old.engine.geometry =
+    ap (λ (o : OutsideView g.row.B.Denot g.row.T.Denot). o.engine.geometry) c.in_ok-reserve.ensures.taken ∙ e.step.step.geometry in
     let same_accesses = ap (λ (t : BusHistory). t.accesses) same_bus in
     let u = c.in_ok-counter.ensures in
     let bumped_accesses = ap (λ (t : BusHistory). t.accesses) u.idle.0 in
@@ -284,20 +284,20 @@ returns-in-Spent-2 g c =
     ∙ ap (λ (o : OutsideView g.row.B.Denot g.row.T.Denot). o.engine.evidence) c.in_ok-reserve.ensures.taken in
     let up = counted_up h m d n old counters c.requires.current c.args.limit c.args.line c.page_of-page.result c.place_of-place.result c.get.new.self c.get.new.counters
     c.in_ok-block.block c.get-2.result c.of.result had (g.met.B.Bus.unmoved c.get.new.self.bus) g.met.B.Bus.moved_on c.reserve.new.self c.bump.new.self c.bump.new.counters
-    c.in_ok-counter.field-0 c.in_ok-reserve.ensures.taken u.moved u.idle u.pads u.levels u.few_copies u.copies u.fits u.outcome u.block u.others in
+    c.in_ok-counter.field-0 c.in_ok-reserve.ensures.taken u.moved u.idle u.pads u.geometry u.few_copies u.copies u.fits u.outcome u.block u.others in
     record {
       written = spent_after h m d n old counters c.requires.current c.args.limit c.args.line c.page_of-page.result c.place_of-place.result c.get.new.self c.get.new.counters
           c.in_ok-block.block c.get-2.result c.of.result had (g.met.B.Bus.unmoved c.get.new.self.bus) g.met.B.Bus.moved_on c.reserve.new.self c.bump.new.self c.bump.new.counters
           c.in_ok-counter.field-0 up c.args.bytes.now c.requires.risen c.in-Spent-2.is c.in_default.not-Spent;
       cached = λ going. subst (λ (p : ℕ). Contains (cached_pages c.bump.new.counters) p) c.page_of-page.ensures.page u.cached;
-      pages = subst (λ (l : ℕ). AreOfPages l c.bump.new.counters) same_levels u.pages;
+      pages = subst (λ (l : GeometryView). AreOfPages l c.bump.new.counters) same_geometry u.pages;
       accepted = λ at under sealed made_count quiet is.
-          not_node old.engine.levels c.page_of-page.result at (e.found (Forgery at under sealed made_count) quiet (sym bumped_evidence ∙ is));
+          not_node old.engine.geometry c.page_of-page.result at (e.found (Forgery at under sealed made_count) quiet (sym bumped_evidence ∙ is));
       once = λ quiet short. (
-        omega (arith, e.once, same_accesses, bumped_accesses, same_levels),
+        omega (arith, e.once, same_accesses, bumped_accesses, same_geometry),
         λ other. ap (λ (t : BusHistory). t.reads (line_place other)) u.idle.0 ∙ ap (λ (t : BusHistory). t.reads (line_place other)) same_bus ∙ e.step.lines.reads other,
       );
-      few = omega (arith, e.once, same_accesses, bumped_accesses, same_levels);
+      few = omega (arith, e.once, same_accesses, bumped_accesses, same_geometry);
       hit = λ cached quiet short. let same = still cached in omega (arith, same, same_accesses, bumped_accesses);
       hit_overflow = λ cached. let same = still cached in omega (arith, same, same_accesses, bumped_accesses);
     }
@@ -316,7 +316,7 @@ returns-in_err-seal-in-Line g c =
     (e.idle (subst (λ (p : ℕ). Contains (cached_pages counters) p) (sym c.page_of-page.ensures.page) cached)).0 in
     let got : IsReached (terms_of h m d n old) old counters c.get.new.self c.get.new.counters None = record {
       node = e.step;
-      levels = e.levels;
+      geometry = e.geometry;
       fits = λ going. e.fits c.requires.fits;
       accounted = e.accounted c.requires.fits;
       shows = e.shows c.requires.fits;
@@ -337,8 +337,8 @@ returns-in_err-seal-in-Line g c =
     } in
     let same_bus : h c.reserve.new.self.bus ≡ h c.get.new.self.bus =
     ap (λ (o : OutsideView g.row.B.Denot g.row.T.Denot). h o.bus) c.in_ok-reserve.ensures.taken in
-    let same_levels : c.reserve.new.self.engine.levels ≡ old.engine.levels =
-    ap (λ (o : OutsideView g.row.B.Denot g.row.T.Denot). o.engine.levels) c.in_ok-reserve.ensures.taken ∙ e.step.step.levels in
+    let same_geometry : c.reserve.new.self.engine.geometry ≡ old.engine.geometry =
+    ap (λ (o : OutsideView g.row.B.Denot g.row.T.Denot). o.engine.geometry) c.in_ok-reserve.ensures.taken ∙ e.step.step.geometry in
     let same_accesses = ap (λ (t : BusHistory). t.accesses) same_bus in
     let u = c.in_ok-counter.ensures in
     let bumped_accesses = ap (λ (t : BusHistory). t.accesses) u.idle.0 in
@@ -346,7 +346,7 @@ returns-in_err-seal-in-Line g c =
     ∙ ap (λ (o : OutsideView g.row.B.Denot g.row.T.Denot). o.engine.evidence) c.in_ok-reserve.ensures.taken in
     let up = counted_up h m d n old counters c.requires.current c.args.limit c.args.line c.page_of-page.result c.place_of-place.result c.get.new.self c.get.new.counters
     c.in_ok-block.block c.get-2.result c.of.result had (g.met.B.Bus.unmoved c.get.new.self.bus) g.met.B.Bus.moved_on c.reserve.new.self c.bump.new.self c.bump.new.counters
-    c.in_ok-counter.field-0 c.in_ok-reserve.ensures.taken u.moved u.idle u.pads u.levels u.few_copies u.copies u.fits u.outcome u.block u.others in
+    c.in_ok-counter.field-0 c.in_ok-reserve.ensures.taken u.moved u.idle u.pads u.geometry u.few_copies u.copies u.fits u.outcome u.block u.others in
     let stop : result_err c.from_residual-in_err-seal-in-Line.result ≡ Some NoMemory = search rules in
     let s = c.seal.ensures in
     let same_last : h c.seal.new.self.bus ≡ h c.bump.new.self.bus = c.in_err-seal-in-Line.ensures.err in
@@ -359,16 +359,16 @@ returns-in_err-seal-in-Line g c =
           (u.is_line c.in-Line.counter (ap (λ o. Ok o) c.in-Line.is)) c.of.ensures.line c.seal.new.self s.used s.made s.undone s.moves s.moved s.honest
           c.requires.risen same_last);
       cached = λ going. subst (λ (p : ℕ). Contains (cached_pages c.bump.new.counters) p) c.page_of-page.ensures.page u.cached;
-      pages = subst (λ (l : ℕ). AreOfPages l c.bump.new.counters) same_levels u.pages;
+      pages = subst (λ (l : GeometryView). AreOfPages l c.bump.new.counters) same_geometry u.pages;
       accepted = λ at under sealed made_count quiet is.
-          not_node old.engine.levels c.page_of-page.result at
+          not_node old.engine.geometry c.page_of-page.result at
           (e.found (Forgery at under sealed made_count) quiet (sym (ap (λ e. e.evidence) s.made ∙ bumped_evidence) ∙ is));
       once = λ quiet short. (
-        omega (arith, e.once, same_accesses, bumped_accesses, same_levels, last_accesses),
+        omega (arith, e.once, same_accesses, bumped_accesses, same_geometry, last_accesses),
         λ other. ap (λ (t : BusHistory). t.reads (line_place other)) same_last ∙ ap (λ (t : BusHistory). t.reads (line_place other)) u.idle.0
             ∙ ap (λ (t : BusHistory). t.reads (line_place other)) same_bus ∙ e.step.lines.reads other,
       );
-      few = omega (arith, e.once, same_accesses, bumped_accesses, same_levels, last_accesses);
+      few = omega (arith, e.once, same_accesses, bumped_accesses, same_geometry, last_accesses);
       hit = λ cached quiet short. let same = still cached in omega (arith, same, same_accesses, bumped_accesses, last_accesses);
       hit_overflow = λ cached. let same = still cached in omega (arith, same, same_accesses, bumped_accesses, last_accesses);
     }
@@ -387,7 +387,7 @@ returns-in_ok-seal-in-Line g c =
     (e.idle (subst (λ (p : ℕ). Contains (cached_pages counters) p) (sym c.page_of-page.ensures.page) cached)).0 in
     let got : IsReached (terms_of h m d n old) old counters c.get.new.self c.get.new.counters None = record {
       node = e.step;
-      levels = e.levels;
+      geometry = e.geometry;
       fits = λ going. e.fits c.requires.fits;
       accounted = e.accounted c.requires.fits;
       shows = e.shows c.requires.fits;
@@ -408,8 +408,8 @@ returns-in_ok-seal-in-Line g c =
     } in
     let same_bus : h c.reserve.new.self.bus ≡ h c.get.new.self.bus =
     ap (λ (o : OutsideView g.row.B.Denot g.row.T.Denot). h o.bus) c.in_ok-reserve.ensures.taken in
-    let same_levels : c.reserve.new.self.engine.levels ≡ old.engine.levels =
-    ap (λ (o : OutsideView g.row.B.Denot g.row.T.Denot). o.engine.levels) c.in_ok-reserve.ensures.taken ∙ e.step.step.levels in
+    let same_geometry : c.reserve.new.self.engine.geometry ≡ old.engine.geometry =
+    ap (λ (o : OutsideView g.row.B.Denot g.row.T.Denot). o.engine.geometry) c.in_ok-reserve.ensures.taken ∙ e.step.step.geometry in
     let same_accesses = ap (λ (t : BusHistory). t.accesses) same_bus in
     let u = c.in_ok-counter.ensures in
     let bumped_accesses = ap (λ (t : BusHistory). t.accesses) u.idle.0 in
@@ -417,7 +417,7 @@ returns-in_ok-seal-in-Line g c =
     ∙ ap (λ (o : OutsideView g.row.B.Denot g.row.T.Denot). o.engine.evidence) c.in_ok-reserve.ensures.taken in
     let up = counted_up h m d n old counters c.requires.current c.args.limit c.args.line c.page_of-page.result c.place_of-place.result c.get.new.self c.get.new.counters
     c.in_ok-block.block c.get-2.result c.of.result had (g.met.B.Bus.unmoved c.get.new.self.bus) g.met.B.Bus.moved_on c.reserve.new.self c.bump.new.self c.bump.new.counters
-    c.in_ok-counter.field-0 c.in_ok-reserve.ensures.taken u.moved u.idle u.pads u.levels u.few_copies u.copies u.fits u.outcome u.block u.others in
+    c.in_ok-counter.field-0 c.in_ok-reserve.ensures.taken u.moved u.idle u.pads u.geometry u.few_copies u.copies u.fits u.outcome u.block u.others in
     let s = c.seal.ensures in
     let wrote = c.in_ok-seal-in-Line.ensures.ok in
     let put = sealed_line (tags_of d n c.bump.new.self.engine) c.args.line c.in-Line.counter
@@ -431,16 +431,16 @@ returns-in_ok-seal-in-Line g c =
           (u.is_line c.in-Line.counter (ap (λ o. Ok o) c.in-Line.is)) c.of.ensures.line c.seal.new.self s.used s.made s.undone s.moves s.moved s.honest
           c.requires.risen wrote;
       cached = λ going. subst (λ (p : ℕ). Contains (cached_pages c.bump.new.counters) p) c.page_of-page.ensures.page u.cached;
-      pages = subst (λ (l : ℕ). AreOfPages l c.bump.new.counters) same_levels u.pages;
+      pages = subst (λ (l : GeometryView). AreOfPages l c.bump.new.counters) same_geometry u.pages;
       accepted = λ at under sealed made_count quiet is.
-          not_node old.engine.levels c.page_of-page.result at
+          not_node old.engine.geometry c.page_of-page.result at
           (e.found (Forgery at under sealed made_count) quiet (sym (ap (λ e. e.evidence) s.made ∙ bumped_evidence) ∙ is));
       once = λ quiet short. (
-        omega (arith, e.once, same_accesses, bumped_accesses, same_levels, last_accesses),
+        omega (arith, e.once, same_accesses, bumped_accesses, same_geometry, last_accesses),
         λ other. ap (λ (f : Place → ℕ). f (line_place other)) one.reads ∙ ap (λ (t : BusHistory). t.reads (line_place other)) u.idle.0
             ∙ ap (λ (t : BusHistory). t.reads (line_place other)) same_bus ∙ e.step.lines.reads other,
       );
-      few = omega (arith, e.once, same_accesses, bumped_accesses, same_levels, last_accesses);
+      few = omega (arith, e.once, same_accesses, bumped_accesses, same_geometry, last_accesses);
       hit = λ cached quiet short. let same = still cached in omega (arith, same, same_accesses, bumped_accesses, last_accesses);
       hit_overflow = λ cached. let same = still cached in omega (arith, same, same_accesses, bumped_accesses, last_accesses);
     }
@@ -456,7 +456,7 @@ reencrypt_page-requires g c =
     let e = c.in_ok-block.ensures in
     let got : IsReached (terms_of h m d n old) old counters c.get.new.self c.get.new.counters None = record {
       node = e.step;
-      levels = e.levels;
+      geometry = e.geometry;
       fits = λ going. e.fits c.requires.fits;
       accounted = e.accounted c.requires.fits;
       shows = e.shows c.requires.fits;
@@ -477,14 +477,14 @@ reencrypt_page-requires g c =
     } in
     let same_bus : h c.reserve.new.self.bus ≡ h c.get.new.self.bus =
     ap (λ (o : OutsideView g.row.B.Denot g.row.T.Denot). h o.bus) c.in_ok-reserve.ensures.taken in
-    let same_levels : c.reserve.new.self.engine.levels ≡ old.engine.levels =
-    ap (λ (o : OutsideView g.row.B.Denot g.row.T.Denot). o.engine.levels) c.in_ok-reserve.ensures.taken ∙ e.step.step.levels in
+    let same_geometry : c.reserve.new.self.engine.geometry ≡ old.engine.geometry =
+    ap (λ (o : OutsideView g.row.B.Denot g.row.T.Denot). o.engine.geometry) c.in_ok-reserve.ensures.taken ∙ e.step.step.geometry in
     let same_accesses = ap (λ (t : BusHistory). t.accesses) same_bus in
     let u = c.in_ok-counter.ensures in
     let bumped_accesses = ap (λ (t : BusHistory). t.accesses) u.idle.0 in
     let up = counted_up h m d n old counters c.requires.current c.args.limit c.args.line c.page_of-page.result c.place_of-place.result c.get.new.self c.get.new.counters
     c.in_ok-block.block c.get-2.result c.of.result had (g.met.B.Bus.unmoved c.get.new.self.bus) g.met.B.Bus.moved_on c.reserve.new.self c.bump.new.self c.bump.new.counters
-    c.in_ok-counter.field-0 c.in_ok-reserve.ensures.taken u.moved u.idle u.pads u.levels u.few_copies u.copies u.fits u.outcome u.block u.others in
+    c.in_ok-counter.field-0 c.in_ok-reserve.ensures.taken u.moved u.idle u.pads u.geometry u.few_copies u.copies u.fits u.outcome u.block u.others in
     let rooms = mid_rooms h m d n old counters c.requires.current c.args.limit c.args.line c.page_of-page.result c.place_of-place.result c.get.new.self c.get.new.counters
     c.in_ok-block.block c.get-2.result c.of.result had (g.met.B.Bus.unmoved c.get.new.self.bus) g.met.B.Bus.moved_on c.reserve.new.self c.bump.new.self c.bump.new.counters
     c.in_ok-counter.field-0 up in
@@ -525,7 +525,7 @@ returns-in-Page g c =
     (e.idle (subst (λ (p : ℕ). Contains (cached_pages counters) p) (sym c.page_of-page.ensures.page) cached)).0 in
     let got : IsReached (terms_of h m d n old) old counters c.get.new.self c.get.new.counters None = record {
       node = e.step;
-      levels = e.levels;
+      geometry = e.geometry;
       fits = λ going. e.fits c.requires.fits;
       accounted = e.accounted c.requires.fits;
       shows = e.shows c.requires.fits;
@@ -546,8 +546,8 @@ returns-in-Page g c =
     } in
     let same_bus : h c.reserve.new.self.bus ≡ h c.get.new.self.bus =
     ap (λ (o : OutsideView g.row.B.Denot g.row.T.Denot). h o.bus) c.in_ok-reserve.ensures.taken in
-    let same_levels : c.reserve.new.self.engine.levels ≡ old.engine.levels =
-    ap (λ (o : OutsideView g.row.B.Denot g.row.T.Denot). o.engine.levels) c.in_ok-reserve.ensures.taken ∙ e.step.step.levels in
+    let same_geometry : c.reserve.new.self.engine.geometry ≡ old.engine.geometry =
+    ap (λ (o : OutsideView g.row.B.Denot g.row.T.Denot). o.engine.geometry) c.in_ok-reserve.ensures.taken ∙ e.step.step.geometry in
     let same_accesses = ap (λ (t : BusHistory). t.accesses) same_bus in
     let u = c.in_ok-counter.ensures in
     let bumped_accesses = ap (λ (t : BusHistory). t.accesses) u.idle.0 in
@@ -558,7 +558,7 @@ returns-in-Page g c =
     let write : LineWrite = record { line = c.args.line; bytes = c.args.bytes.now; counter = record { page = c.in-Page.raised; line = 0 } } in
     let up = counted_up h m d n old counters c.requires.current c.args.limit c.args.line c.page_of-page.result c.place_of-place.result c.get.new.self c.get.new.counters
     c.in_ok-block.block c.get-2.result c.of.result had (g.met.B.Bus.unmoved c.get.new.self.bus) g.met.B.Bus.moved_on c.reserve.new.self c.bump.new.self c.bump.new.counters
-    c.in_ok-counter.field-0 c.in_ok-reserve.ensures.taken u.moved u.idle u.pads u.levels u.few_copies u.copies u.fits u.outcome u.block u.others in
+    c.in_ok-counter.field-0 c.in_ok-reserve.ensures.taken u.moved u.idle u.pads u.geometry u.few_copies u.copies u.fits u.outcome u.block u.others in
     let p = c.reencrypt_page.ensures in
     record {
       written = page_written h m d n old counters c.requires.current c.args.limit c.args.line c.page_of-page.result c.place_of-place.result c.get.new.self c.get.new.counters
@@ -566,9 +566,9 @@ returns-in-Page g c =
           c.in_ok-counter.field-0 up c.requires.started (e.read c.requires.fits) c.args.bytes.now c.in-Page.raised c.in-Page.is c.of.ensures.overflow
           c.reencrypt_page.new.self (result_err c.reencrypt_page.result) p.sealed;
       cached = λ going. subst (λ (p : ℕ). Contains (cached_pages c.bump.new.counters) p) c.page_of-page.ensures.page u.cached;
-      pages = subst (λ (l : ℕ). AreOfPages l c.bump.new.counters) same_levels u.pages;
+      pages = subst (λ (l : GeometryView). AreOfPages l c.bump.new.counters) same_geometry u.pages;
       accepted = λ at under sealed made_count quiet is.
-          let still = before_line old.engine.levels c.page_of-page.result at under sealed made_count c.bump.new.self.engine.evidence c.reencrypt_page.new.self.engine.evidence
+          let still = before_line old.engine.geometry c.page_of-page.result at under sealed made_count c.bump.new.self.engine.evidence c.reencrypt_page.new.self.engine.evidence
           (λ evidence there. e.found evidence quiet (sym bumped_evidence ∙ there)) p.sealed.sealed.step.evidence is in
           let accepted = p.accepted at under sealed made_count still is in
           let as_many = made_as_used (terms_of h m d n c.bump.new.self) write c.bump.new.self (take p.sealed.count (page_lines (page_of c.args.line)))
@@ -578,7 +578,7 @@ returns-in-Page g c =
           c.in_ok-block.block c.get-2.result c.of.result had (g.met.B.Bus.unmoved c.get.new.self.bus) g.met.B.Bus.moved_on c.reserve.new.self c.bump.new.self c.bump.new.counters
           c.in_ok-counter.field-0 up c.requires.started (e.read c.requires.fits) c.args.bytes.now c.in-Page.raised c.in-Page.is c.of.ensures.overflow
           c.reencrypt_page.new.self (result_err c.reencrypt_page.result) p.sealed quiet));
-      few = omega (arith, e.once, same_accesses, bumped_accesses, same_levels, p.once);
+      few = omega (arith, e.once, same_accesses, bumped_accesses, same_geometry, p.once);
       hit = λ cached quiet short. absurd (short (page_overflows h m d n old counters c.requires.current c.args.limit c.args.line c.page_of-page.result c.place_of-place.result c.get.new.self c.get.new.counters
           c.in_ok-block.block c.get-2.result c.of.result had (g.met.B.Bus.unmoved c.get.new.self.bus) g.met.B.Bus.moved_on c.reserve.new.self c.bump.new.self c.bump.new.counters
           c.in_ok-counter.field-0 up c.requires.started (e.read c.requires.fits) c.args.bytes.now c.in-Page.raised c.in-Page.is c.of.ensures.overflow

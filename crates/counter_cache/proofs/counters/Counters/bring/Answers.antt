@@ -3,7 +3,7 @@ use Rattle.std.specs.List.{Contains}
 use Rattle.std.specs.Option.{option_map}
 use Rattle.std.specs.Result.{result_err}
 use Rattle.sec_base.specs.Evidence.{evidence_place}
-use Rattle.sec_base.specs.Geometry.{page_count}
+use Rattle.sec_base.specs.Geometry.{GeometryView, page_count}
 use Rattle.sec_base.specs.declared.evidence.Evidence.TheVariants.{Collision}
 use Rattle.sec_base.specs.declared.message.Message.{Message}
 use Rattle.sec_base.specs.declared.place.Place.{Place}
@@ -34,9 +34,9 @@ pub returns-then-touch-clause-has : goal.returns-then-touch-clause-has
 returns-then-touch-clause-has g c =
     let same : (page : ℕ) → way_at c.touch.new.self page ≡ way_at c.args.self.now.blocks page =
     λ page. c.if-touch.ensures.same page ∙ ap (λ (v : CountersView). way_at v.blocks page) c.self.view_is in
-    let are : AreBlocks c.args.self.now.tree.levels c.args.self.now.blocks = subst (λ (v : CountersView). AreBlocks v.tree.levels v.blocks) c.self.view_is c.self.invariant.blocks in
-    has_touched g.T.Tagger.data_tag_of g.T.Tagger.node_tag_of (IsFetchPlace c.args.self.now.tree.levels c.args.page) c.args.self.now (record { tree = c.self.inside.tree; blocks = c.touch.new.self }) (g.B.Bus.history c.args.bus.now) c.args.tags.now (ap (λ (v : CountersView). v.tree) c.self.view_is)
-    (blocks_same c.args.self.now.tree.levels c.args.self.now.blocks c.touch.new.self are c.if-touch.ensures.cache same)
+    let are : AreBlocks c.args.self.now.tree.geometry c.args.self.now.blocks = subst (λ (v : CountersView). AreBlocks v.tree.geometry v.blocks) c.self.view_is c.self.invariant.blocks in
+    has_touched g.T.Tagger.data_tag_of g.T.Tagger.node_tag_of (IsFetchPlace c.args.self.now.tree.geometry c.args.page) c.args.self.now (record { tree = c.self.inside.tree; blocks = c.touch.new.self }) (g.B.Bus.history c.args.bus.now) c.args.tags.now (ap (λ (v : CountersView). v.tree) c.self.view_is)
+    (blocks_same c.args.self.now.tree.geometry c.args.self.now.blocks c.touch.new.self are c.if-touch.ensures.cache same)
     (λ page. ap (option_map copy_of) (same page))
 
 pub returns-then-touch-clause-read : goal.returns-then-touch-clause-read
@@ -56,14 +56,14 @@ returns-in_err-make_room-clause-has g c =
     let stop : result_err c.from_residual.result ≡ Some why = search rules in
     let same : (record { tree = c.self.inside.tree; blocks = c.touch.new.self }) ≡ c.args.self.now =
     ap (λ (b : List (List Way)). record { tree = c.self.inside.tree; blocks = b }) (c.if-touch.ensures.unchanged refl) ∙ c.self.view_is in
-    let room : Has (tags_of g.T.Tagger.data_tag_of g.T.Tagger.node_tag_of) (IsFetchPlace c.args.self.now.tree.levels c.args.page) c.args.self.now (g.B.Bus.history c.args.bus.now) c.args.tags.now c.make_room.new.self (g.B.Bus.history c.make_room.new.bus) c.make_room.new.tags (Some why) =
+    let room : Has (tags_of g.T.Tagger.data_tag_of g.T.Tagger.node_tag_of) (IsFetchPlace c.args.self.now.tree.geometry c.args.page) c.args.self.now (g.B.Bus.history c.args.bus.now) c.args.tags.now c.make_room.new.self (g.B.Bus.history c.make_room.new.bus) c.make_room.new.tags (Some why) =
     has_room g.T.Tagger.data_tag_of g.T.Tagger.node_tag_of c.args.page c.args.self.now (record { tree = c.self.inside.tree; blocks = c.touch.new.self }) c.make_room.new.self (g.B.Bus.history c.args.bus.now) (g.B.Bus.history c.make_room.new.bus)
     c.args.tags.now c.make_room.new.tags (Some why) same c.in_err-make_room.ensures.has in
-    subst (λ (s : Option MemStop). Has (tags_of g.T.Tagger.data_tag_of g.T.Tagger.node_tag_of) (IsFetchPlace c.args.self.now.tree.levels c.args.page) c.args.self.now (g.B.Bus.history c.args.bus.now) c.args.tags.now c.make_room.new.self (g.B.Bus.history c.make_room.new.bus) c.make_room.new.tags s) (sym stop) room
+    subst (λ (s : Option MemStop). Has (tags_of g.T.Tagger.data_tag_of g.T.Tagger.node_tag_of) (IsFetchPlace c.args.self.now.tree.geometry c.args.page) c.args.self.now (g.B.Bus.history c.args.bus.now) c.args.tags.now c.make_room.new.self (g.B.Bus.history c.make_room.new.bus) c.make_room.new.tags s) (sym stop) room
 
 pub returns-in_err-make_room-clause-accepted : goal.returns-in_err-make_room-clause-accepted
 returns-in_err-make_room-clause-accepted g c = λ made_at bytes tag quiet is.
-    absurd (not_from_one c.self.inside.tree.levels c.args.page (node_place 0 c.args.page) refl
+    absurd (not_from_one c.self.inside.tree.geometry c.args.page (node_place 0 c.args.page) refl
     (c.in_err-make_room.ensures.has.found quiet (Collision 0 c.args.page made_at bytes tag) is))
 
 pub returns-in_err-make_room-clause-hit : goal.returns-in_err-make_room-clause-hit
@@ -72,7 +72,7 @@ returns-in_err-make_room-clause-hit g c = λ cached.
     ap (λ (b : List (List Way)). record { tree = c.self.inside.tree; blocks = b }) (c.if-touch.ensures.unchanged refl) ∙ c.self.view_is in
     let absent : cached_block c.args.self.now c.args.page ≡ None =
     ap (λ (v : CountersView). cached_block v c.args.page) (sym same) ∙ ap (option_map copy_of) (c.if-touch.ensures.absent refl) in
-    let are : AreBlocks c.args.self.now.tree.levels c.args.self.now.blocks = subst (λ (v : CountersView). AreBlocks v.tree.levels v.blocks) c.self.view_is c.self.invariant.blocks in
+    let are : AreBlocks c.args.self.now.tree.geometry c.args.self.now.blocks = subst (λ (v : CountersView). AreBlocks v.tree.geometry v.blocks) c.self.view_is c.self.invariant.blocks in
     absurd (cached_held c.args.self.now c.args.page are.cache cached absent)
 
 -- where its block can't be fetched
@@ -80,33 +80,33 @@ pub returns-in_err-block-clause-has : goal.returns-in_err-block-clause-has
 returns-in_err-block-clause-has g c =
     let same : (record { tree = c.self.inside.tree; blocks = c.touch.new.self }) ≡ c.args.self.now =
     ap (λ (b : List (List Way)). record { tree = c.self.inside.tree; blocks = b }) (c.if-touch.ensures.unchanged refl) ∙ c.self.view_is in
-    let room : Has (tags_of g.T.Tagger.data_tag_of g.T.Tagger.node_tag_of) (IsFetchPlace c.args.self.now.tree.levels c.args.page) c.args.self.now (g.B.Bus.history c.args.bus.now) c.args.tags.now c.make_room.new.self (g.B.Bus.history c.make_room.new.bus) c.make_room.new.tags None =
+    let room : Has (tags_of g.T.Tagger.data_tag_of g.T.Tagger.node_tag_of) (IsFetchPlace c.args.self.now.tree.geometry c.args.page) c.args.self.now (g.B.Bus.history c.args.bus.now) c.args.tags.now c.make_room.new.self (g.B.Bus.history c.make_room.new.bus) c.make_room.new.tags None =
     has_room g.T.Tagger.data_tag_of g.T.Tagger.node_tag_of c.args.page c.args.self.now (record { tree = c.self.inside.tree; blocks = c.touch.new.self }) c.make_room.new.self (g.B.Bus.history c.args.bus.now) (g.B.Bus.history c.make_room.new.bus)
     c.args.tags.now c.make_room.new.tags None same c.in_ok-make_room.ensures.has in
     let tree_is : c.self-2.inside.tree ≡ c.make_room.new.self.tree = ap (λ (v : CountersView). v.tree) c.self-2.view_is in
-    let levels : c.self-2.inside.tree.levels ≡ c.args.self.now.tree.levels = ap (λ (t : TreeView). t.levels) tree_is ∙ room.levels in
-    let at_levels : (place : Place) → IsFetchPlace c.self-2.inside.tree.levels c.args.page place → IsFetchPlace c.args.self.now.tree.levels c.args.page place =
-    λ place is. subst (λ (k : ℕ). IsFetchPlace k c.args.page place) levels is in
+    let geometry : c.self-2.inside.tree.geometry ≡ c.args.self.now.tree.geometry = ap (λ (t : TreeView). t.geometry) tree_is ∙ room.geometry in
+    let at_geometry : (place : Place) → IsFetchPlace c.self-2.inside.tree.geometry c.args.page place → IsFetchPlace c.args.self.now.tree.geometry c.args.page place =
+    λ place is. subst (λ (k : GeometryView). IsFetchPlace k c.args.page place) geometry is in
     let why = c.in_err-block.field-0.0 in
     let stop : result_err c.from_residual-in_err-block.result ≡ Some why = search rules in
     let is : c.fetch.result ≡ Err why = c.in_err-block.was in
-    subst (λ (s : Option MemStop). Has (tags_of g.T.Tagger.data_tag_of g.T.Tagger.node_tag_of) (IsFetchPlace c.args.self.now.tree.levels c.args.page) c.args.self.now (g.B.Bus.history c.args.bus.now) c.args.tags.now (record { tree = c.fetch.new.self; blocks = c.self-2.inside.blocks }) (g.B.Bus.history c.fetch.new.bus) c.fetch.new.tags s)
+    subst (λ (s : Option MemStop). Has (tags_of g.T.Tagger.data_tag_of g.T.Tagger.node_tag_of) (IsFetchPlace c.args.self.now.tree.geometry c.args.page) c.args.self.now (g.B.Bus.history c.args.bus.now) c.args.tags.now (record { tree = c.fetch.new.self; blocks = c.self-2.inside.blocks }) (g.B.Bus.history c.fetch.new.bus) c.fetch.new.tags s)
     (ap result_err is ∙ sym stop)
-    (has_on g.T.Tagger.data_tag_of g.T.Tagger.node_tag_of (IsFetchPlace c.args.self.now.tree.levels c.args.page) c.args.self.now c.make_room.new.self (record { tree = c.fetch.new.self; blocks = c.self-2.inside.blocks }) (g.B.Bus.history c.args.bus.now) (g.B.Bus.history c.make_room.new.bus) (g.B.Bus.history c.fetch.new.bus) c.args.tags.now c.make_room.new.tags c.fetch.new.tags (result_err c.fetch.result) room
-    (subst (λ (v : CountersView). Has (tags_of g.T.Tagger.data_tag_of g.T.Tagger.node_tag_of) (IsFetchPlace c.args.self.now.tree.levels c.args.page) v (g.B.Bus.history c.make_room.new.bus) c.make_room.new.tags (over c.fetch.new.self (record { tree = c.self-2.inside.tree; blocks = c.self-2.inside.blocks })) (g.B.Bus.history c.fetch.new.bus) c.fetch.new.tags (result_err c.fetch.result)) c.self-2.view_is
-    (has_tree g.T.Tagger.data_tag_of g.T.Tagger.node_tag_of (IsFetchPlace c.args.self.now.tree.levels c.args.page) (record { tree = c.self-2.inside.tree; blocks = c.self-2.inside.blocks }) c.fetch.new.self (g.B.Bus.history c.make_room.new.bus) (g.B.Bus.history c.fetch.new.bus) c.make_room.new.tags c.fetch.new.tags (result_err c.fetch.result)
+    (has_on g.T.Tagger.data_tag_of g.T.Tagger.node_tag_of (IsFetchPlace c.args.self.now.tree.geometry c.args.page) c.args.self.now c.make_room.new.self (record { tree = c.fetch.new.self; blocks = c.self-2.inside.blocks }) (g.B.Bus.history c.args.bus.now) (g.B.Bus.history c.make_room.new.bus) (g.B.Bus.history c.fetch.new.bus) c.args.tags.now c.make_room.new.tags c.fetch.new.tags (result_err c.fetch.result) room
+    (subst (λ (v : CountersView). Has (tags_of g.T.Tagger.data_tag_of g.T.Tagger.node_tag_of) (IsFetchPlace c.args.self.now.tree.geometry c.args.page) v (g.B.Bus.history c.make_room.new.bus) c.make_room.new.tags (over c.fetch.new.self (record { tree = c.self-2.inside.tree; blocks = c.self-2.inside.blocks })) (g.B.Bus.history c.fetch.new.bus) c.fetch.new.tags (result_err c.fetch.result)) c.self-2.view_is
+    (has_tree g.T.Tagger.data_tag_of g.T.Tagger.node_tag_of (IsFetchPlace c.args.self.now.tree.geometry c.args.page) (record { tree = c.self-2.inside.tree; blocks = c.self-2.inside.blocks }) c.fetch.new.self (g.B.Bus.history c.make_room.new.bus) (g.B.Bus.history c.fetch.new.bus) c.make_room.new.tags c.fetch.new.tags (result_err c.fetch.result)
     (record {
       moves = c.fetch.ensures.moves;
       lines = c.fetch.ensures.lines;
-      levels = c.fetch.ensures.levels;
+      geometry = c.fetch.ensures.geometry;
       root = c.fetch.ensures.root;
       few_nodes = c.fetch.ensures.few_copies;
       holds = λ holds memory. c.fetch.ensures.holds holds (λ is. memory (ap result_err is));
       honest = λ holds used was. c.fetch.ensures.honest used holds was;
       lied = λ holds quiet place is. c.fetch.ensures.tampered place (stop_is c.fetch.result (Tampered place) is) holds quiet;
       shown = c.fetch.ensures.shown;
-      tampered = λ place is. at_levels place (c.fetch.ensures.at_place place (stop_is c.fetch.result (Tampered place) is));
-      found = λ quiet evidence is. at_levels (evidence_place evidence) (c.fetch.ensures.found evidence quiet is);
+      tampered = λ place is. at_geometry place (c.fetch.ensures.at_place place (stop_is c.fetch.result (Tampered place) is));
+      found = λ quiet evidence is. at_geometry (evidence_place evidence) (c.fetch.ensures.found evidence quiet is);
       unspent = λ spent is. c.fetch.ensures.unspent spent (stop_is c.fetch.result (Spent spent) is);
       writes = c.fetch.ensures.writes;
       made_blocks = c.fetch.ensures.made_blocks;
@@ -120,7 +120,7 @@ returns-in_err-block-clause-has g c =
 pub returns-in_err-block-clause-accepted : goal.returns-in_err-block-clause-accepted
 returns-in_err-block-clause-accepted g c = λ made_at bytes tag quiet is.
     let mid : c.make_room.new.tags.evidence ≡ None =
-    quiet_before c.self.inside.tree.levels c.args.page c.make_room.new.tags.evidence c.fetch.new.tags.evidence (c.in_ok-make_room.ensures.has.found quiet)
+    quiet_before c.self.inside.tree.geometry c.args.page c.make_room.new.tags.evidence c.fetch.new.tags.evidence (c.in_ok-make_room.ensures.has.found quiet)
     c.fetch.ensures.moves.evidence made_at bytes tag is in
     let both : Ok bytes ≡ Err c.in_err-block.field-0.0 = sym (c.fetch.ensures.accepted made_at bytes tag mid is) ∙ c.in_err-block.was in
     absurd (cc)
@@ -131,7 +131,7 @@ returns-in_err-block-clause-hit g c = λ cached.
     ap (λ (b : List (List Way)). record { tree = c.self.inside.tree; blocks = b }) (c.if-touch.ensures.unchanged refl) ∙ c.self.view_is in
     let absent : cached_block c.args.self.now c.args.page ≡ None =
     ap (λ (v : CountersView). cached_block v c.args.page) (sym same) ∙ ap (option_map copy_of) (c.if-touch.ensures.absent refl) in
-    let are : AreBlocks c.args.self.now.tree.levels c.args.self.now.blocks = subst (λ (v : CountersView). AreBlocks v.tree.levels v.blocks) c.self.view_is c.self.invariant.blocks in
+    let are : AreBlocks c.args.self.now.tree.geometry c.args.self.now.blocks = subst (λ (v : CountersView). AreBlocks v.tree.geometry v.blocks) c.self.view_is c.self.invariant.blocks in
     absurd (cached_held c.args.self.now c.args.page are.cache cached absent)
 
 pub returns-in_err-block-clause-once_clean : goal.returns-in_err-block-clause-once_clean
@@ -141,20 +141,20 @@ returns-in_err-block-clause-once_clean g c = λ clean.
     let idle : (g.B.Bus.history c.make_room.new.bus).accesses ≡ (g.B.Bus.history c.args.bus.now).accesses =
     subst (λ (v : CountersView). LeavesClean v c.args.page → (g.B.Bus.history c.make_room.new.bus).accesses ≡ (g.B.Bus.history c.args.bus.now).accesses) same
     c.make_room.ensures.idle clean in
-    let levels : c.self-2.inside.tree.levels ≡ c.args.self.now.tree.levels =
-    ap (λ (v : CountersView). v.tree.levels) c.self-2.view_is ∙ c.in_ok-make_room.ensures.has.levels ∙ ap (λ (v : CountersView). v.tree.levels) c.self.view_is in
-    subst (λ (k : ℕ). (g.B.Bus.history c.fetch.new.bus).accesses ≤ (g.B.Bus.history c.args.bus.now).accesses + path_accesses k) levels
-    (subst (λ (n : ℕ). (g.B.Bus.history c.fetch.new.bus).accesses ≤ n + path_accesses c.self-2.inside.tree.levels) idle c.fetch.ensures.once)
+    let geometry : c.self-2.inside.tree.geometry ≡ c.args.self.now.tree.geometry =
+    ap (λ (v : CountersView). v.tree.geometry) c.self-2.view_is ∙ c.in_ok-make_room.ensures.has.geometry ∙ ap (λ (v : CountersView). v.tree.geometry) c.self.view_is in
+    subst (λ (k : GeometryView). (g.B.Bus.history c.fetch.new.bus).accesses ≤ (g.B.Bus.history c.args.bus.now).accesses + path_accesses k.levels) geometry
+    (subst (λ (n : ℕ). (g.B.Bus.history c.fetch.new.bus).accesses ≤ n + path_accesses c.self-2.inside.tree.geometry.levels) idle c.fetch.ensures.once)
 
 -- where its block is fetched
 pub invariant_of-self-3 : goal.invariant_of-self-3
 invariant_of-self-3 g c =
-    let levels : c.self-2.inside.tree.levels ≡ c.args.self.now.tree.levels =
-    ap (λ (v : CountersView). v.tree.levels) c.self-2.view_is ∙ c.in_ok-make_room.ensures.has.levels ∙ ap (λ (v : CountersView). v.tree.levels) c.self.view_is in
+    let geometry : c.self-2.inside.tree.geometry ≡ c.args.self.now.tree.geometry =
+    ap (λ (v : CountersView). v.tree.geometry) c.self-2.view_is ∙ c.in_ok-make_room.ensures.has.geometry ∙ ap (λ (v : CountersView). v.tree.geometry) c.self.view_is in
     record {
-      blocks = blocks_put c.fetch.new.self.levels c.self-2.inside.blocks c.put.new.self
-          (subst (λ (k : ℕ). AreBlocks k c.self-2.inside.blocks) (sym c.fetch.ensures.levels) c.self-2.invariant.blocks) c.put.ensures.cache c.args.page c.in_ok-block.block false
-          (subst (λ (k : ℕ). c.args.page < page_count k) (sym (c.fetch.ensures.levels ∙ levels)) c.requires.page) (search rules) c.put.ensures.put c.put.ensures.same;
+      blocks = blocks_put c.fetch.new.self.geometry c.self-2.inside.blocks c.put.new.self
+          (subst (λ (k : GeometryView). AreBlocks k c.self-2.inside.blocks) (sym c.fetch.ensures.geometry) c.self-2.invariant.blocks) c.put.ensures.cache c.args.page c.in_ok-block.block false
+          (subst (λ (k : GeometryView). c.args.page < page_count k) (sym (c.fetch.ensures.geometry ∙ geometry)) c.requires.page) (search rules) c.put.ensures.put c.put.ensures.same;
       few_nodes = c.fetch.ensures.few_copies;
     }
 
@@ -165,32 +165,32 @@ pub returns-clause-has : goal.returns-clause-has
 returns-clause-has g c =
     let same : (record { tree = c.self.inside.tree; blocks = c.touch.new.self }) ≡ c.args.self.now =
     ap (λ (b : List (List Way)). record { tree = c.self.inside.tree; blocks = b }) (c.if-touch.ensures.unchanged refl) ∙ c.self.view_is in
-    let room : Has (tags_of g.T.Tagger.data_tag_of g.T.Tagger.node_tag_of) (IsFetchPlace c.args.self.now.tree.levels c.args.page) c.args.self.now (g.B.Bus.history c.args.bus.now) c.args.tags.now c.make_room.new.self (g.B.Bus.history c.make_room.new.bus) c.make_room.new.tags None =
+    let room : Has (tags_of g.T.Tagger.data_tag_of g.T.Tagger.node_tag_of) (IsFetchPlace c.args.self.now.tree.geometry c.args.page) c.args.self.now (g.B.Bus.history c.args.bus.now) c.args.tags.now c.make_room.new.self (g.B.Bus.history c.make_room.new.bus) c.make_room.new.tags None =
     has_room g.T.Tagger.data_tag_of g.T.Tagger.node_tag_of c.args.page c.args.self.now (record { tree = c.self.inside.tree; blocks = c.touch.new.self }) c.make_room.new.self (g.B.Bus.history c.args.bus.now) (g.B.Bus.history c.make_room.new.bus)
     c.args.tags.now c.make_room.new.tags None same c.in_ok-make_room.ensures.has in
     let tree_is : c.self-2.inside.tree ≡ c.make_room.new.self.tree = ap (λ (v : CountersView). v.tree) c.self-2.view_is in
-    let levels : c.self-2.inside.tree.levels ≡ c.args.self.now.tree.levels = ap (λ (t : TreeView). t.levels) tree_is ∙ room.levels in
-    let at_levels : (place : Place) → IsFetchPlace c.self-2.inside.tree.levels c.args.page place → IsFetchPlace c.args.self.now.tree.levels c.args.page place =
-    λ place is. subst (λ (k : ℕ). IsFetchPlace k c.args.page place) levels is in
+    let geometry : c.self-2.inside.tree.geometry ≡ c.args.self.now.tree.geometry = ap (λ (t : TreeView). t.geometry) tree_is ∙ room.geometry in
+    let at_geometry : (place : Place) → IsFetchPlace c.self-2.inside.tree.geometry c.args.page place → IsFetchPlace c.args.self.now.tree.geometry c.args.page place =
+    λ place is. subst (λ (k : GeometryView). IsFetchPlace k c.args.page place) geometry is in
     let is : c.fetch.result ≡ Ok c.in_ok-block.block = c.in_ok-block.was in
     let empty : way_at c.self-2.inside.blocks c.args.page ≡ None =
     ap (λ (v : CountersView). way_at v.blocks c.args.page) c.self-2.view_is ∙ c.in_ok-make_room.ensures.absent in
-    has_on g.T.Tagger.data_tag_of g.T.Tagger.node_tag_of (IsFetchPlace c.args.self.now.tree.levels c.args.page) c.args.self.now c.make_room.new.self (record { tree = c.fetch.new.self; blocks = c.put.new.self }) (g.B.Bus.history c.args.bus.now) (g.B.Bus.history c.make_room.new.bus) (g.B.Bus.history c.fetch.new.bus) c.args.tags.now c.make_room.new.tags c.fetch.new.tags None room
-    (subst (λ (v : CountersView). Has (tags_of g.T.Tagger.data_tag_of g.T.Tagger.node_tag_of) (IsFetchPlace c.args.self.now.tree.levels c.args.page) v (g.B.Bus.history c.make_room.new.bus) c.make_room.new.tags (record { tree = c.fetch.new.self; blocks = c.put.new.self }) (g.B.Bus.history c.fetch.new.bus) c.fetch.new.tags None) c.self-2.view_is
-    (has_put g.T.Tagger.data_tag_of g.T.Tagger.node_tag_of (IsFetchPlace c.args.self.now.tree.levels c.args.page) c.args.page (record { tree = c.self-2.inside.tree; blocks = c.self-2.inside.blocks }) c.fetch.new.self (record { tree = c.fetch.new.self; blocks = c.put.new.self }) (g.B.Bus.history c.make_room.new.bus) (g.B.Bus.history c.fetch.new.bus) c.make_room.new.tags c.fetch.new.tags c.in_ok-block.block
-    (subst (λ (s : Option MemStop). TreeCall (tags_of g.T.Tagger.data_tag_of g.T.Tagger.node_tag_of) (IsFetchPlace c.args.self.now.tree.levels c.args.page) c.self-2.inside.tree (g.B.Bus.history c.make_room.new.bus) c.make_room.new.tags c.fetch.new.self (g.B.Bus.history c.fetch.new.bus) c.fetch.new.tags s) (ap result_err is)
+    has_on g.T.Tagger.data_tag_of g.T.Tagger.node_tag_of (IsFetchPlace c.args.self.now.tree.geometry c.args.page) c.args.self.now c.make_room.new.self (record { tree = c.fetch.new.self; blocks = c.put.new.self }) (g.B.Bus.history c.args.bus.now) (g.B.Bus.history c.make_room.new.bus) (g.B.Bus.history c.fetch.new.bus) c.args.tags.now c.make_room.new.tags c.fetch.new.tags None room
+    (subst (λ (v : CountersView). Has (tags_of g.T.Tagger.data_tag_of g.T.Tagger.node_tag_of) (IsFetchPlace c.args.self.now.tree.geometry c.args.page) v (g.B.Bus.history c.make_room.new.bus) c.make_room.new.tags (record { tree = c.fetch.new.self; blocks = c.put.new.self }) (g.B.Bus.history c.fetch.new.bus) c.fetch.new.tags None) c.self-2.view_is
+    (has_put g.T.Tagger.data_tag_of g.T.Tagger.node_tag_of (IsFetchPlace c.args.self.now.tree.geometry c.args.page) c.args.page (record { tree = c.self-2.inside.tree; blocks = c.self-2.inside.blocks }) c.fetch.new.self (record { tree = c.fetch.new.self; blocks = c.put.new.self }) (g.B.Bus.history c.make_room.new.bus) (g.B.Bus.history c.fetch.new.bus) c.make_room.new.tags c.fetch.new.tags c.in_ok-block.block
+    (subst (λ (s : Option MemStop). TreeCall (tags_of g.T.Tagger.data_tag_of g.T.Tagger.node_tag_of) (IsFetchPlace c.args.self.now.tree.geometry c.args.page) c.self-2.inside.tree (g.B.Bus.history c.make_room.new.bus) c.make_room.new.tags c.fetch.new.self (g.B.Bus.history c.fetch.new.bus) c.fetch.new.tags s) (ap result_err is)
     (record {
       moves = c.fetch.ensures.moves;
       lines = c.fetch.ensures.lines;
-      levels = c.fetch.ensures.levels;
+      geometry = c.fetch.ensures.geometry;
       root = c.fetch.ensures.root;
       few_nodes = c.fetch.ensures.few_copies;
       holds = λ holds memory. c.fetch.ensures.holds holds (λ is. memory (ap result_err is));
       honest = λ holds used was. c.fetch.ensures.honest used holds was;
       lied = λ holds quiet place is. c.fetch.ensures.tampered place (stop_is c.fetch.result (Tampered place) is) holds quiet;
       shown = c.fetch.ensures.shown;
-      tampered = λ place is. at_levels place (c.fetch.ensures.at_place place (stop_is c.fetch.result (Tampered place) is));
-      found = λ quiet evidence is. at_levels (evidence_place evidence) (c.fetch.ensures.found evidence quiet is);
+      tampered = λ place is. at_geometry place (c.fetch.ensures.at_place place (stop_is c.fetch.result (Tampered place) is));
+      found = λ quiet evidence is. at_geometry (evidence_place evidence) (c.fetch.ensures.found evidence quiet is);
       unspent = λ spent is. c.fetch.ensures.unspent spent (stop_is c.fetch.result (Spent spent) is);
       writes = c.fetch.ensures.writes;
       made_blocks = c.fetch.ensures.made_blocks;
@@ -201,7 +201,7 @@ returns-clause-has g c =
     }))
     c.fetch.ensures.pages.last
     c.in_ok-block.ensures.block (inl refl)
-    (λ holds quiet. subst (λ (page : ℕ). CameFrom c.make_room.new.tags.made (g.B.Bus.history c.make_room.new.bus) (g.B.Bus.history c.fetch.new.bus) page) (above_none 0 c.args.page)
+    (λ holds quiet. subst (λ (page : ℕ). CameFrom c.make_room.new.tags.made (g.B.Bus.history c.make_room.new.bus) (g.B.Bus.history c.fetch.new.bus) page) (above_none c.self-2.inside.tree.geometry c.args.page)
     ((c.in_ok-block.ensures.read holds quiet).rose 0 (omega arith) (omega arith) (λ lower from_zero few. no_copy_below c.self-2.inside.tree lower c.args.page few))) refl
     (invariant_of-self-3 g c).blocks
     (ap (option_map copy_of) empty) (ap (option_map copy_of) c.put.ensures.put)
@@ -222,7 +222,7 @@ returns-clause-had g c = λ bytes copied.
     c.in_ok-block.ensures.checked)
     (λ quiet made_at shown tag is.
     let mid : c.make_room.new.tags.evidence ≡ None =
-    quiet_before c.self.inside.tree.levels c.args.page c.make_room.new.tags.evidence c.fetch.new.tags.evidence (c.in_ok-make_room.ensures.has.found quiet)
+    quiet_before c.self.inside.tree.geometry c.args.page c.make_room.new.tags.evidence c.fetch.new.tags.evidence (c.in_ok-make_room.ensures.has.found quiet)
     c.fetch.ensures.moves.evidence made_at shown tag is in
     let both : Ok c.in_ok-block.block ≡ Ok shown = sym c.in_ok-block.was ∙ c.fetch.ensures.accepted made_at shown tag mid is in
     let same_block : c.in_ok-block.block ≡ shown = cc in same_block))
@@ -233,21 +233,21 @@ returns-clause-hit g c = λ cached.
     ap (λ (b : List (List Way)). record { tree = c.self.inside.tree; blocks = b }) (c.if-touch.ensures.unchanged refl) ∙ c.self.view_is in
     let absent : cached_block c.args.self.now c.args.page ≡ None =
     ap (λ (v : CountersView). cached_block v c.args.page) (sym same) ∙ ap (option_map copy_of) (c.if-touch.ensures.absent refl) in
-    let are : AreBlocks c.args.self.now.tree.levels c.args.self.now.blocks = subst (λ (v : CountersView). AreBlocks v.tree.levels v.blocks) c.self.view_is c.self.invariant.blocks in
+    let are : AreBlocks c.args.self.now.tree.geometry c.args.self.now.blocks = subst (λ (v : CountersView). AreBlocks v.tree.geometry v.blocks) c.self.view_is c.self.invariant.blocks in
     absurd (cached_held c.args.self.now c.args.page are.cache cached absent)
 
 pub returns-clause-read : goal.returns-clause-read
 returns-clause-read g c = λ holds quiet uncached.
     let same : (record { tree = c.self.inside.tree; blocks = c.touch.new.self }) ≡ c.args.self.now =
     ap (λ (b : List (List Way)). record { tree = c.self.inside.tree; blocks = b }) (c.if-touch.ensures.unchanged refl) ∙ c.self.view_is in
-    let room : Has (tags_of g.T.Tagger.data_tag_of g.T.Tagger.node_tag_of) (IsFetchPlace c.args.self.now.tree.levels c.args.page) c.args.self.now (g.B.Bus.history c.args.bus.now) c.args.tags.now c.make_room.new.self (g.B.Bus.history c.make_room.new.bus) c.make_room.new.tags None =
+    let room : Has (tags_of g.T.Tagger.data_tag_of g.T.Tagger.node_tag_of) (IsFetchPlace c.args.self.now.tree.geometry c.args.page) c.args.self.now (g.B.Bus.history c.args.bus.now) c.args.tags.now c.make_room.new.self (g.B.Bus.history c.make_room.new.bus) c.make_room.new.tags None =
     has_room g.T.Tagger.data_tag_of g.T.Tagger.node_tag_of c.args.page c.args.self.now (record { tree = c.self.inside.tree; blocks = c.touch.new.self }) c.make_room.new.self (g.B.Bus.history c.args.bus.now) (g.B.Bus.history c.make_room.new.bus)
     c.args.tags.now c.make_room.new.tags None same c.in_ok-make_room.ensures.has in
     let mid : c.make_room.new.tags.evidence ≡ None = was_none c.make_room.new.tags.evidence c.fetch.new.tags.evidence c.fetch.ensures.moves.evidence quiet in
     let inside : HoldsTree (tags_of g.T.Tagger.data_tag_of g.T.Tagger.node_tag_of) c.self-2.inside.tree (g.B.Bus.history c.make_room.new.bus) c.make_room.new.tags =
     subst (λ (v : CountersView). HoldsTree (tags_of g.T.Tagger.data_tag_of g.T.Tagger.node_tag_of) v.tree (g.B.Bus.history c.make_room.new.bus) c.make_room.new.tags) (sym c.self-2.view_is)
     (room.holds holds going).tree in
-    path_on c.args.self.now.tree c.make_room.new.self.tree c.args.page c.args.tags.now.made c.make_room.new.tags.made (g.B.Bus.history c.args.bus.now) (g.B.Bus.history c.make_room.new.bus) (g.B.Bus.history c.fetch.new.bus) room.levels room.moves.reads
+    path_on c.args.self.now.tree c.make_room.new.self.tree c.args.page c.args.tags.now.made c.make_room.new.tags.made (g.B.Bus.history c.args.bus.now) (g.B.Bus.history c.make_room.new.bus) (g.B.Bus.history c.fetch.new.bus) room.geometry room.moves.reads
     c.fetch.ensures.moves.reads (room.read holds mid) (unmade_before c.args.tags.now.made c.make_room.new.tags.made room.moves.more room.moves.made)
     (subst (λ (v : CountersView). PathWasRead v.tree c.make_room.new.tags.made 0 c.args.page (g.B.Bus.history c.make_room.new.bus) (g.B.Bus.history c.fetch.new.bus)) c.self-2.view_is (c.in_ok-block.ensures.read inside quiet))
 
@@ -279,10 +279,10 @@ returns-clause-once_clean g c = λ clean.
     let idle : (g.B.Bus.history c.make_room.new.bus).accesses ≡ (g.B.Bus.history c.args.bus.now).accesses =
     subst (λ (v : CountersView). LeavesClean v c.args.page → (g.B.Bus.history c.make_room.new.bus).accesses ≡ (g.B.Bus.history c.args.bus.now).accesses) same
     c.make_room.ensures.idle clean in
-    let levels : c.self-2.inside.tree.levels ≡ c.args.self.now.tree.levels =
-    ap (λ (v : CountersView). v.tree.levels) c.self-2.view_is ∙ c.in_ok-make_room.ensures.has.levels ∙ ap (λ (v : CountersView). v.tree.levels) c.self.view_is in
-    subst (λ (k : ℕ). (g.B.Bus.history c.fetch.new.bus).accesses ≤ (g.B.Bus.history c.args.bus.now).accesses + path_accesses k) levels
-    (subst (λ (n : ℕ). (g.B.Bus.history c.fetch.new.bus).accesses ≤ n + path_accesses c.self-2.inside.tree.levels) idle c.fetch.ensures.once)
+    let geometry : c.self-2.inside.tree.geometry ≡ c.args.self.now.tree.geometry =
+    ap (λ (v : CountersView). v.tree.geometry) c.self-2.view_is ∙ c.in_ok-make_room.ensures.has.geometry ∙ ap (λ (v : CountersView). v.tree.geometry) c.self.view_is in
+    subst (λ (k : GeometryView). (g.B.Bus.history c.fetch.new.bus).accesses ≤ (g.B.Bus.history c.args.bus.now).accesses + path_accesses k.levels) geometry
+    (subst (λ (n : ℕ). (g.B.Bus.history c.fetch.new.bus).accesses ≤ n + path_accesses c.self-2.inside.tree.geometry.levels) idle c.fetch.ensures.once)
 
 -- no copy is marked
 pub returns-then-touch-clause-unmarked : goal.returns-then-touch-clause-unmarked

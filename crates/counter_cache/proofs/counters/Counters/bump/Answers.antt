@@ -1,15 +1,16 @@
-use Rattle.std.proofs.Common.{◌≡◌, ◌≢◌, ◌<◌, ℕ, length, Option, Some, None, Ok, Err, true, is_some, ap, sym, ◌∙◌, subst, rules}
+use Rattle.std.proofs.Common.{◌≡◌, ◌≢◌, ◌<◌, ℕ, length, Option, Some, None, Ok, Err, inl, inr, true, true≢false, is_some, ap, sym, ◌∙◌, subst, rules}
 use Rattle.std.specs.List.{Contains}
+use Rattle.std.proofs.lemmas.Bool.{cases_eq}
 use Rattle.std.specs.Option.{option_map}
 use Rattle.std.specs.Result.{result_err}
-use Rattle.sec_base.specs.Geometry.{page_count}
+use Rattle.sec_base.specs.Geometry.{GeometryView, page_count}
 use Rattle.sec_base.specs.LastMessage.{last_node}
 use Rattle.sec_base.specs.declared.stop.MemStop.TheVariants.{NoMemory}
 use Rattle.sec_base.proofs.Results.{stop_is, on_err}
 use Rattle.cache_set.specs.declared.way.Way.{Way}
 use Rattle.cache_set.specs.CacheSet.{with_latest, without}
 use Rattle.cache_set.specs.Cache.{set_at, way_at}
-use Rattle.cache_set.proofs.Listed.{listed_at}
+use Rattle.cache_set.proofs.Listed.{found_at, listed_at}
 use Rattle.tag_engine.specs.TagEngine.{tags_of}
 use Rattle.split_counter.specs.declared.bumped.Bumped.TheVariants.{Line, Page, Spent}
 use Rattle.split_counter.specs.CounterBlock.{CounterBlockView, IsCounterBlock, after_bump, block_of, bumped, counter_of}
@@ -36,11 +37,11 @@ returns-in_err-block-clause-refused g c = λ holds quiet. on_err c.from_residual
 
 pub invariant_of-self : goal.invariant_of-self
 invariant_of-self g c =
-    let levels : c.self.inside.tree.levels ≡ c.args.self.now.tree.levels = ap (λ (v : CountersView). v.tree.levels) c.self.view_is ∙ c.get.ensures.levels in
+    let geometry : c.self.inside.tree.geometry ≡ c.args.self.now.tree.geometry = ap (λ (v : CountersView). v.tree.geometry) c.self.view_is ∙ c.get.ensures.geometry in
     let long : length c.to_bytes.result ≡ 64 = search rules in
     record {
-      blocks = blocks_put c.self.inside.tree.levels c.self.inside.blocks c.change.new.self c.self.invariant.blocks c.change.ensures.cache c.args.page c.to_bytes.result true
-          (subst (λ (k : ℕ). c.args.page < page_count k) (sym levels) c.requires.page) long c.change.ensures.changed c.change.ensures.same;
+      blocks = blocks_put c.self.inside.tree.geometry c.self.inside.blocks c.change.new.self c.self.invariant.blocks c.change.ensures.cache c.args.page c.to_bytes.result true
+          (subst (λ (k : GeometryView). c.args.page < page_count k) (sym geometry) c.requires.page) long c.change.ensures.changed c.change.ensures.same;
       few_nodes = c.self.invariant.few_nodes;
     }
 
@@ -75,12 +76,12 @@ returns-clause-cached g c =
     listed_at c.change.new.self c.args.page (ap (λ (o : Option Way). is_some o) c.change.ensures.changed)
 
 pub returns-clause-few_copies : goal.returns-clause-few_copies
-returns-clause-few_copies g c = few_blocks c.self.inside.tree.levels c.change.new.self (invariant_of-self g c).blocks
+returns-clause-few_copies g c = few_blocks c.self.inside.tree.geometry c.change.new.self (invariant_of-self g c).blocks
 
 pub returns-clause-pages : goal.returns-clause-pages
 returns-clause-pages g c =
-    pages_inside c.self.inside.tree.levels c.args.self.now.tree.levels c.change.new.self
-    (ap (λ (v : CountersView). v.tree.levels) c.self.view_is ∙ c.get.ensures.levels) (invariant_of-self g c).blocks
+    pages_inside c.self.inside.tree.geometry c.args.self.now.tree.geometry c.change.new.self
+    (ap (λ (v : CountersView). v.tree.geometry) c.self.view_is ∙ c.get.ensures.geometry) (invariant_of-self g c).blocks
 
 pub returns-clause-new_copies : goal.returns-clause-new_copies
 returns-clause-new_copies g c = λ holds quiet other listed.
@@ -142,3 +143,23 @@ returns-clause-other_sets g c = λ other apart.
     set_kept c.self.inside.blocks c.change.new.self c.args.page (with_latest way (set_at c.self.inside.blocks c.args.page)) c.self.invariant.blocks.cache
     c.change.ensures.after other apart
     ∙ ap (λ (v : CountersView). set_at v.blocks other) c.self.view_is ∙ c.get.ensures.other_sets other apart
+
+-- a way that is there has a copy
+copied : (way : Option Way) → is_some way ≡ true → option_map copy_of way ≢ None
+copied None there none = true≢false (sym there)
+copied (Some way) there none = absurd (cc)
+
+pub returns-clause-goes : goal.returns-clause-goes
+returns-clause-goes g c = λ other leaves.
+    let gone : cached_block c.get.new.self other ≡ None = c.in_ok-block.ensures.goes other leaves in
+    let listed : Contains (cached_pages (record { tree = c.self.inside.tree; blocks = c.self.inside.blocks })) c.args.page =
+    subst (λ (v : CountersView). Contains (cached_pages v) c.args.page) (sym c.self.view_is) c.in_ok-block.ensures.cached in
+    let there = found_at _ c.self.inside.blocks c.args.page c.self.invariant.blocks.cache listed in
+    elim (cases_eq other c.args.page) [
+      | inl same ↦
+          absurd (copied (way_at c.self.inside.blocks c.args.page) there
+          (ap (λ (page : ℕ). cached_block (record { tree = c.self.inside.tree; blocks = c.self.inside.blocks }) page) (sym same)
+          ∙ ap (λ (v : CountersView). cached_block v other) c.self.view_is ∙ gone))
+      | inr apart ↦
+          ap (option_map copy_of) (c.change.ensures.same other apart) ∙ ap (λ (v : CountersView). cached_block v other) c.self.view_is ∙ gone
+    ]

@@ -14,11 +14,11 @@ use Rattle.counter_cache.proofs.counters.Counters.get.Goals as goal
 
 pub returns-in_err-bring-clause-few_copies : goal.returns-in_err-bring-clause-few_copies
 returns-in_err-bring-clause-few_copies g c =
-    few_blocks c.bring.new.self.tree.levels c.bring.new.self.blocks c.in_err-bring.ensures.copies.blocks
+    few_blocks c.bring.new.self.tree.geometry c.bring.new.self.blocks c.in_err-bring.ensures.copies.blocks
 
 pub returns-in_err-bring-clause-pages : goal.returns-in_err-bring-clause-pages
 returns-in_err-bring-clause-pages g c =
-    pages_inside c.bring.new.self.tree.levels c.args.self.now.tree.levels c.bring.new.self.blocks c.in_err-bring.ensures.has.levels
+    pages_inside c.bring.new.self.tree.geometry c.args.self.now.tree.geometry c.bring.new.self.blocks c.in_err-bring.ensures.has.geometry
     c.in_err-bring.ensures.copies.blocks
 
 pub returns-in_err-bring-clause-new_copies : goal.returns-in_err-bring-clause-new_copies
@@ -60,11 +60,11 @@ returns-clause-cached g c =
 
 pub returns-clause-few_copies : goal.returns-clause-few_copies
 returns-clause-few_copies g c =
-    few_blocks c.bring.new.self.tree.levels c.bring.new.self.blocks c.in_ok-bring.ensures.copies.blocks
+    few_blocks c.bring.new.self.tree.geometry c.bring.new.self.blocks c.in_ok-bring.ensures.copies.blocks
 
 pub returns-clause-pages : goal.returns-clause-pages
 returns-clause-pages g c =
-    pages_inside c.bring.new.self.tree.levels c.args.self.now.tree.levels c.bring.new.self.blocks c.in_ok-bring.ensures.has.levels
+    pages_inside c.bring.new.self.tree.geometry c.args.self.now.tree.geometry c.bring.new.self.blocks c.in_ok-bring.ensures.has.geometry
     c.in_ok-bring.ensures.copies.blocks
 
 pub returns-clause-new_copies : goal.returns-clause-new_copies

@@ -16,13 +16,13 @@ use Rattle.counter_cache.proofs.Orders.{left_without, set_kept}
 use Rattle.counter_cache.proofs.counters.Counters.make_room.Goals as goal
 
 pub returns-in_default-clause-has : goal.returns-in_default-clause-has
-returns-in_default-clause-has g c = has_not g.T.Tagger.data_tag_of g.T.Tagger.node_tag_of (IsNodeFrom c.args.self.now.tree.levels 1) c.args.self.now (g.B.Bus.history c.args.bus.now) c.args.tags.now
+returns-in_default-clause-has g c = has_not g.T.Tagger.data_tag_of g.T.Tagger.node_tag_of (IsNodeFrom c.args.self.now.tree.geometry 1) c.args.self.now (g.B.Bus.history c.args.bus.now) c.args.tags.now
 
 pub returns-in_err-write_back-clause-has : goal.returns-in_err-write_back-clause-has
 returns-in_err-write_back-clause-has g c =
     let why = c.in_err-write_back.field-0.0 in
     let stop : result_err c.from_residual.result ≡ Some why = search rules in
-    subst (λ (s : Option MemStop). Has (tags_of g.T.Tagger.data_tag_of g.T.Tagger.node_tag_of) (IsNodeFrom c.args.self.now.tree.levels 1) c.args.self.now (g.B.Bus.history c.args.bus.now) c.args.tags.now c.write_back.new.self
+    subst (λ (s : Option MemStop). Has (tags_of g.T.Tagger.data_tag_of g.T.Tagger.node_tag_of) (IsNodeFrom c.args.self.now.tree.geometry 1) c.args.self.now (g.B.Bus.history c.args.bus.now) c.args.tags.now c.write_back.new.self
     (g.B.Bus.history c.write_back.new.bus) c.write_back.new.tags s) (sym stop) c.in_err-write_back.ensures.has
 
 pub returns-clause-has : goal.returns-clause-has
@@ -31,13 +31,13 @@ returns-clause-has g c =
     sym (ap (λ (v : CountersView). way_at v.blocks c.in-Some.victim.place) c.self.view_is) ∙ c.in-Some.ensures.way in
     let here : way_at c.write_back.new.self.blocks c.in-Some.victim.place ≡ Some c.in-Some.victim =
     ap (λ (blocks : List (List Way)). way_at blocks c.in-Some.victim.place) c.in_ok-write_back.ensures.blocks ∙ way in
-    has_on g.T.Tagger.data_tag_of g.T.Tagger.node_tag_of (IsNodeFrom c.args.self.now.tree.levels 1) c.args.self.now c.write_back.new.self (record { tree = c.self-2.inside.tree; blocks = c.remove.new.self })
+    has_on g.T.Tagger.data_tag_of g.T.Tagger.node_tag_of (IsNodeFrom c.args.self.now.tree.geometry 1) c.args.self.now c.write_back.new.self (record { tree = c.self-2.inside.tree; blocks = c.remove.new.self })
     (g.B.Bus.history c.args.bus.now) (g.B.Bus.history c.write_back.new.bus) (g.B.Bus.history c.write_back.new.bus) c.args.tags.now c.write_back.new.tags c.write_back.new.tags None
     c.in_ok-write_back.ensures.has
-    (has_dropped g.T.Tagger.data_tag_of g.T.Tagger.node_tag_of (IsNodeFrom c.args.self.now.tree.levels 1) c.in-Some.victim.place c.write_back.new.self (record { tree = c.self-2.inside.tree; blocks = c.remove.new.self })
+    (has_dropped g.T.Tagger.data_tag_of g.T.Tagger.node_tag_of (IsNodeFrom c.args.self.now.tree.geometry 1) c.in-Some.victim.place c.write_back.new.self (record { tree = c.self-2.inside.tree; blocks = c.remove.new.self })
     (g.B.Bus.history c.write_back.new.bus) c.write_back.new.tags (copy_of c.in-Some.victim) (ap (λ (v : CountersView). v.tree) c.self-2.view_is)
-    (blocks_left c.write_back.new.self.tree.levels c.write_back.new.self.blocks c.remove.new.self c.in-Some.victim.place
-    (subst (λ (v : CountersView). AreBlocks v.tree.levels v.blocks) c.self-2.view_is c.self-2.invariant.blocks) c.remove.ensures.cache c.remove.ensures.removed
+    (blocks_left c.write_back.new.self.tree.geometry c.write_back.new.self.blocks c.remove.new.self c.in-Some.victim.place
+    (subst (λ (v : CountersView). AreBlocks v.tree.geometry v.blocks) c.self-2.view_is c.self-2.invariant.blocks) c.remove.ensures.cache c.remove.ensures.removed
     (λ other apart. c.remove.ensures.same other apart ∙ ap (λ (v : CountersView). way_at v.blocks other) c.self-2.view_is))
     (ap (option_map copy_of) here) (ap (option_map copy_of) c.remove.ensures.removed)
     (λ other apart. ap (option_map copy_of) (c.remove.ensures.same other apart ∙ ap (λ (v : CountersView). way_at v.blocks other) c.self-2.view_is))
@@ -55,7 +55,7 @@ returns-in_err-write_back-clause-pages g c =
 pub invariant_of-self : goal.invariant_of-self
 invariant_of-self g c =
     record {
-      blocks = blocks_left c.self-2.inside.tree.levels c.self-2.inside.blocks c.remove.new.self c.in-Some.victim.place c.self-2.invariant.blocks c.remove.ensures.cache
+      blocks = blocks_left c.self-2.inside.tree.geometry c.self-2.inside.blocks c.remove.new.self c.in-Some.victim.place c.self-2.invariant.blocks c.remove.ensures.cache
           c.remove.ensures.removed c.remove.ensures.same;
       few_nodes = c.self-2.invariant.few_nodes;
     }

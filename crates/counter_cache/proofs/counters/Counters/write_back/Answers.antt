@@ -14,17 +14,17 @@ use Rattle.counter_cache.proofs.Havings.{has_not, has_tree, over}
 use Rattle.counter_cache.proofs.counters.Counters.write_back.Goals as goal
 
 pub returns-then-not-victim-clause-has : goal.returns-then-not-victim-clause-has
-returns-then-not-victim-clause-has g c = has_not g.T.Tagger.data_tag_of g.T.Tagger.node_tag_of (IsNodeFrom c.args.self.now.tree.levels 1) c.args.self.now (g.B.Bus.history c.args.bus.now) c.args.tags.now
+returns-then-not-victim-clause-has g c = has_not g.T.Tagger.data_tag_of g.T.Tagger.node_tag_of (IsNodeFrom c.args.self.now.tree.geometry 1) c.args.self.now (g.B.Bus.history c.args.bus.now) c.args.tags.now
 
 pub returns-clause-has : goal.returns-clause-has
 returns-clause-has g c =
-    subst (λ (v : CountersView). Has (tags_of g.T.Tagger.data_tag_of g.T.Tagger.node_tag_of) (IsNodeFrom v.tree.levels 1) v (g.B.Bus.history c.args.bus.now) c.args.tags.now (over c.update.new.self (record { tree = c.self.inside.tree; blocks = c.self.inside.blocks }))
+    subst (λ (v : CountersView). Has (tags_of g.T.Tagger.data_tag_of g.T.Tagger.node_tag_of) (IsNodeFrom v.tree.geometry 1) v (g.B.Bus.history c.args.bus.now) c.args.tags.now (over c.update.new.self (record { tree = c.self.inside.tree; blocks = c.self.inside.blocks }))
     (g.B.Bus.history c.update.new.bus) c.update.new.tags (result_err c.update.result)) c.self.view_is
-    (has_tree g.T.Tagger.data_tag_of g.T.Tagger.node_tag_of (IsNodeFrom c.self.inside.tree.levels 1) (record { tree = c.self.inside.tree; blocks = c.self.inside.blocks }) c.update.new.self (g.B.Bus.history c.args.bus.now) (g.B.Bus.history c.update.new.bus) c.args.tags.now c.update.new.tags (result_err c.update.result)
+    (has_tree g.T.Tagger.data_tag_of g.T.Tagger.node_tag_of (IsNodeFrom c.self.inside.tree.geometry 1) (record { tree = c.self.inside.tree; blocks = c.self.inside.blocks }) c.update.new.self (g.B.Bus.history c.args.bus.now) (g.B.Bus.history c.update.new.bus) c.args.tags.now c.update.new.tags (result_err c.update.result)
     (record {
       moves = c.update.ensures.moves;
       lines = c.update.ensures.lines;
-      levels = c.update.ensures.levels;
+      geometry = c.update.ensures.geometry;
       root = c.update.ensures.root;
       few_nodes = c.update.ensures.few_copies;
       holds = λ holds memory. c.update.ensures.holds holds (λ is. memory (ap result_err is));

@@ -1,5 +1,5 @@
-use Rattle.std.proofs.Common.{◌≡◌, ◌<◌, ℕ, None, ap, ◌∙◌, subst}
-use Rattle.sec_base.specs.Geometry.{page_count}
+use Rattle.std.proofs.Common.{◌≡◌, ◌<◌, None, ap, ◌∙◌, subst}
+use Rattle.sec_base.specs.Geometry.{GeometryView, page_count}
 use Rattle.tag_engine.specs.TagEngine.{TagEngineView}
 use Rattle.page_reencrypt.specs.Outside.{OutsideView}
 use Rattle.page_reencrypt.proofs.NodeSteps.{fits_after, fits_before, ok_gives, ok_had_memory}
@@ -29,7 +29,7 @@ returns-clause-fits g c = λ fits.
     let step = c.bump.ensures in
     rw (← c.self.view_is)
     (fits_after g.B.Bus.history g.B.Bus.moved g.T.Tagger.data_tag_of g.T.Tagger.node_tag_of old c.bump.new.bus c.bump.new.tags c.bump.new.self
-    step.moves.tagger step.moves.levels (ok_gives c.bump.result (step.hit c.requires.cached) (ok_had_memory c.bump.result (step.holds was))))
+    step.moves.tagger step.moves.geometry (ok_gives c.bump.result (step.hit c.requires.cached) (ok_had_memory c.bump.result (step.holds was))))
 
 pub returns-clause-outcome : goal.returns-clause-outcome
 returns-clause-outcome g c = λ fits quiet.
@@ -59,4 +59,4 @@ returns-clause-others g c = λ fits quiet other differs.
     rw (← c.self.view_is) (c.bump.ensures.others was still other differs)
 
 pub returns-clause-pages : goal.returns-clause-pages
-returns-clause-pages g c = λ other cached. subst (λ (l : ℕ). other < page_count l) c.requires.levels (c.bump.ensures.pages other cached)
+returns-clause-pages g c = λ other cached. subst (λ (l : GeometryView). other < page_count l) c.requires.geometry (c.bump.ensures.pages other cached)

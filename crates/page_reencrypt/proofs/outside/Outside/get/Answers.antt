@@ -1,5 +1,5 @@
-use Rattle.std.proofs.Common.{◌≡◌, ◌<◌, ℕ, sym, subst}
-use Rattle.sec_base.specs.Geometry.{page_count}
+use Rattle.std.proofs.Common.{◌≡◌, ◌<◌, sym, subst}
+use Rattle.sec_base.specs.Geometry.{GeometryView, page_count}
 use Rattle.sec_base.proofs.Results.{was_none}
 use Rattle.tag_engine.specs.TagEngine.{tags_of}
 use Rattle.bonsai_tree.specs.Tree.{SlotsAreTags}
@@ -16,13 +16,13 @@ returns-clause-step g c =
     let d = g.T.Tagger.data_tag_of in
     let n = g.T.Tagger.node_tag_of in
     let h = g.B.Bus.history in
-    let levels : c.args.counters.now.tree.levels ≡ old.engine.levels = rw (← c.self.view_is) at c.requires.levels in
+    let geometry : c.args.counters.now.tree.geometry ≡ old.engine.geometry = rw (← c.self.view_is) at c.requires.geometry in
     let kept : AreConsistent (terms_of h g.B.Bus.moved d n old) old = rw (← c.self.view_is) at c.requires.consistent in
     let last : HaveLast (terms_of h g.B.Bus.moved d n old) old = rw (← c.self.view_is) at c.requires.holds_last in
     let nodes : HaveLastNodes (terms_of h g.B.Bus.moved d n old) old = rw (← c.self.view_is) at c.requires.nodes_hold_last in
     let step = c.get.ensures in
     rw (← c.self.view_is)
-    (node_step h g.B.Bus.moved d n old c.get.new.bus c.get.new.tags c.args.counters.now.tree _ levels kept last nodes
+    (node_step h g.B.Bus.moved d n old c.get.new.bus c.get.new.tags c.args.counters.now.tree _ geometry kept last nodes
     step.moved step.moves step.lines step.writes step.made_blocks
     (λ was goes_on. step.last_blocks was (not_refused c.get.result goes_on)))
 
@@ -49,7 +49,7 @@ returns-clause-fits g c = λ fits.
     rw (← c.self.view_is)
     (ok_map c.get.result
     (fits_after g.B.Bus.history g.B.Bus.moved g.T.Tagger.data_tag_of g.T.Tagger.node_tag_of old c.get.new.bus c.get.new.tags c.get.new.self
-    step.moves.tagger step.moves.levels)
+    step.moves.tagger step.moves.geometry)
     (ok_had_memory c.get.result (step.holds was)))
 
 pub returns-clause-nodes : goal.returns-clause-nodes
@@ -59,16 +59,16 @@ returns-clause-nodes g c = λ inside fits says quiet said.
     let n = g.T.Tagger.node_tag_of in
     let h = g.B.Bus.history in
     let was = fits_before h g.B.Bus.moved d n old c.get.new.bus c.get.new.tags c.args.counters.now (rw (← c.self.view_is) at fits) in
-    let levels : c.args.counters.now.tree.levels ≡ old.engine.levels = rw (← c.self.view_is) at c.requires.levels in
-    let pages : AreOfPages old.engine.levels c.args.counters.now = rw (← c.self.view_is) at inside in
+    let geometry : c.args.counters.now.tree.geometry ≡ old.engine.geometry = rw (← c.self.view_is) at c.requires.geometry in
+    let pages : AreOfPages old.engine.geometry c.args.counters.now = rw (← c.self.view_is) at inside in
     let say : CountersSay (terms_of h g.B.Bus.moved d n old) old c.args.counters.now = rw (← c.self.view_is) at says in
-    let before : NodesSay (tags_of d n old.engine) old.engine.levels old.pads.used old.engine.made = rw (← c.self.view_is) at said in
+    let before : NodesSay (tags_of d n old.engine) old.engine.geometry old.pads.used old.engine.made = rw (← c.self.view_is) at said in
     let step = c.get.ensures in
     rw (← c.self.view_is)
     (record {
-      slots = subst (λ (l : ℕ). SlotsAreTags (tags_of d n old.engine) l c.get.new.tags.made) levels
-          (step.slots was quiet (subst (λ (l : ℕ). SlotsAreTags (tags_of d n old.engine) l old.engine.made) (sym levels) before.slots));
-      blocks = says_had old.engine.levels old.pads.used c.args.counters.now c.args.page (h old.bus) (h c.get.new.bus) old.engine.made c.get.new.tags.made
+      slots = subst (λ (l : GeometryView). SlotsAreTags (tags_of d n old.engine) l c.get.new.tags.made) geometry
+          (step.slots was quiet (subst (λ (l : GeometryView). SlotsAreTags (tags_of d n old.engine) l old.engine.made) (sym geometry) before.slots));
+      blocks = says_had old.engine.geometry old.pads.used c.args.counters.now c.args.page (h old.bus) (h c.get.new.bus) old.engine.made c.get.new.tags.made
           step.lines pages (say (was_none old.engine.evidence c.get.new.tags.evidence step.moves.evidence quiet)) step.written before.blocks;
     })
 
@@ -92,11 +92,11 @@ returns-clause-accepted g c = λ made_at bytes tag quiet shown.
 
 pub returns-clause-found : goal.returns-clause-found
 returns-clause-found g c = λ evidence quiet shown.
-    rw (← c.requires.levels) (c.get.ensures.found evidence (rw (← c.self.view_is) at quiet) shown)
+    rw (← c.requires.geometry) (c.get.ensures.found evidence (rw (← c.self.view_is) at quiet) shown)
 
 pub returns-clause-tampered : goal.returns-clause-tampered
 returns-clause-tampered g c = λ place is. (
-  rw (← c.requires.levels) (c.get.ensures.at_place place is),
+  rw (← c.requires.geometry) (c.get.ensures.at_place place is),
   λ fits quiet.
       let old : OutsideView g.row.B.Denot g.row.T.Denot = record { bus = c.self.inside.bus; engine = c.self.inside.tags; pads = c.self.inside.pads } in
       let was = fits_before g.B.Bus.history g.B.Bus.moved g.T.Tagger.data_tag_of g.T.Tagger.node_tag_of old c.get.new.bus c.get.new.tags c.args.counters.now
@@ -133,4 +133,4 @@ returns-clause-unread g c = λ fits quiet.
     rw (← c.self.view_is) (c.get.ensures.unread was quiet)
 
 pub returns-clause-pages : goal.returns-clause-pages
-returns-clause-pages g c = λ other cached. subst (λ (l : ℕ). other < page_count l) c.requires.levels (c.get.ensures.pages other cached)
+returns-clause-pages g c = λ other cached. subst (λ (l : GeometryView). other < page_count l) c.requires.geometry (c.get.ensures.pages other cached)

@@ -14,7 +14,7 @@ use Rattle.page_reencrypt.proofs.outside.Outside.read.Goals as goal
 pub returns-then-eq-clause-value : goal.returns-then-eq-clause-value
 returns-then-eq-clause-value g c = λ was_quiet.
     let old = c.args.self.now in
-    fresh_bytes (tags_of g.T.Tagger.data_tag_of g.T.Tagger.node_tag_of old.engine) old.engine.levels (g.B.Bus.history old.bus)
+    fresh_bytes (tags_of g.T.Tagger.data_tag_of g.T.Tagger.node_tag_of old.engine) old.engine.geometry (g.B.Bus.history old.bus)
     old.engine.made old.pads.used c.args.line c.args.counter c.requires.consistent (c.requires.risen was_quiet) c.requires.inside (c.requires.counter was_quiet)
     old.pads.key ((counter_eq-Decides c.args.counter never_written).0 (sym c.eq.ensures ∙ c.if-eq.true))
 
@@ -28,7 +28,7 @@ returns-in_err-cipher-clause-accounted g c = λ was.
     λ still.
     let was_quiet : old.engine.evidence ≡ None = rw (← c.self.view_is) still in
     rw (← c.self.view_is) at
-    (current (tags_of g.T.Tagger.data_tag_of g.T.Tagger.node_tag_of old.engine) old.engine.levels (g.B.Bus.history old.bus)
+    (current (tags_of g.T.Tagger.data_tag_of g.T.Tagger.node_tag_of old.engine) old.engine.geometry (g.B.Bus.history old.bus)
     old.engine.made old.pads.used c.args.line c.args.counter c.requires.consistent (c.requires.risen was_quiet) c.requires.inside (c.requires.counter was_quiet) some c.requires.holds_last) in
     let before : IsAccounted tags outside.pads.used outside.tags.made (g.B.Bus.history outside.bus) None outside.tags.evidence = rw (← c.self.view_is) at was in
     let same : c.from_residual.result ≡ c.read_line-cipher.result = search rules in
@@ -44,7 +44,7 @@ returns-in_err-cipher-clause-tampered g c = λ place stops.
     λ still.
     let was_quiet : old.engine.evidence ≡ None = rw (← c.self.view_is) still in
     rw (← c.self.view_is) at
-    (current (tags_of g.T.Tagger.data_tag_of g.T.Tagger.node_tag_of old.engine) old.engine.levels (g.B.Bus.history old.bus)
+    (current (tags_of g.T.Tagger.data_tag_of g.T.Tagger.node_tag_of old.engine) old.engine.geometry (g.B.Bus.history old.bus)
     old.engine.made old.pads.used c.args.line c.args.counter c.requires.consistent (c.requires.risen was_quiet) c.requires.inside (c.requires.counter was_quiet) some c.requires.holds_last) in
     let refused : c.read_line-cipher.result ≡ Err (Tampered place) = search rules in
     let tampered = c.read_line-cipher.ensures.tampered place refused in
@@ -60,7 +60,7 @@ returns-clause-value g c = λ quiet.
     let plain = cipher_of outside.pads.key c.args.line c.args.counter c.in_ok-cipher.field-0 in
     let written : plain ≡ line_bytes outside.pads.key outside.tags.made c.args.line =
     rw (← c.self.view_is) at
-    (written_bytes (tags_of g.T.Tagger.data_tag_of g.T.Tagger.node_tag_of old.engine) old.engine.levels (g.B.Bus.history old.bus)
+    (written_bytes (tags_of g.T.Tagger.data_tag_of g.T.Tagger.node_tag_of old.engine) old.engine.geometry (g.B.Bus.history old.bus)
     old.engine.made old.pads.used c.args.line c.args.counter c.requires.consistent (c.requires.risen was_quiet) c.requires.inside (c.requires.counter was_quiet) some
     old.pads.key c.in_ok-cipher.field-0 (rw (← c.self.view_is) (c.in_ok-cipher.ensures.known.1 quiet))) in
     rw (← c.self.view_is) (◌∙◌ {b = plain} c.decrypt.ensures.plain written)
@@ -75,7 +75,7 @@ returns-clause-accounted g c = λ was.
     λ still.
     let was_quiet : old.engine.evidence ≡ None = rw (← c.self.view_is) still in
     rw (← c.self.view_is) at
-    (current (tags_of g.T.Tagger.data_tag_of g.T.Tagger.node_tag_of old.engine) old.engine.levels (g.B.Bus.history old.bus)
+    (current (tags_of g.T.Tagger.data_tag_of g.T.Tagger.node_tag_of old.engine) old.engine.geometry (g.B.Bus.history old.bus)
     old.engine.made old.pads.used c.args.line c.args.counter c.requires.consistent (c.requires.risen was_quiet) c.requires.inside (c.requires.counter was_quiet) some c.requires.holds_last) in
     let before : IsAccounted tags outside.pads.used outside.tags.made (g.B.Bus.history outside.bus) None outside.tags.evidence = rw (← c.self.view_is) at was in
     rw (← c.self.view_is) (c.in_ok-cipher.ensures.honest outside.pads.used is before)
@@ -88,7 +88,7 @@ returns-clause-shows g c = λ quiet.
     let some : c.args.counter ≢ never_written = not_from_Decides _ (counter_eq-Decides c.args.counter never_written) (sym c.eq.ensures ∙ c.if-eq.false) in
     let is : IsCurrent tags outside.pads.used outside.tags.made (g.B.Bus.history outside.bus).written c.args.line c.args.counter =
     rw (← c.self.view_is) at
-    (current (tags_of g.T.Tagger.data_tag_of g.T.Tagger.node_tag_of old.engine) old.engine.levels (g.B.Bus.history old.bus)
+    (current (tags_of g.T.Tagger.data_tag_of g.T.Tagger.node_tag_of old.engine) old.engine.geometry (g.B.Bus.history old.bus)
     old.engine.made old.pads.used c.args.line c.args.counter c.requires.consistent (c.requires.risen quiet) c.requires.inside (c.requires.counter quiet) some c.requires.holds_last) in
     rw (← c.self.view_is) (c.read_line-cipher.ensures.shown outside.pads.used is (rw (← c.self.view_is) at quiet))
 

@@ -36,12 +36,12 @@ invariant_of-self g c =
     let lines = sealed_lines_view c.self.inside in
     let new = c.read_at-read.new.outside in
     let counters = c.read_at-read.new.counters in
-    let inside : c.args.line < line_count lines.engine.levels = rw (← c.self.view_is) at c.requires.inside in
+    let inside : c.args.line < line_count lines.engine.geometry = rw (← c.self.view_is) at c.requires.inside in
     let going : lasting_stop lines.stopped ≡ None = sym c.lasting.ensures ∙ c.in_default.is in
     let stops : c.or-self-inside.result ≡ option_or (result_err c.read_at-read.result) lines.stopped =
     c.or-self-inside.ensures ∙ ap (λ (o : Option MemStop). option_or o lines.stopped) c.err.ensures.value in
     let r = c.read_at-read.ensures.read in (
-      c.self.invariant.0 ∙ sym r.step.levels,
+      c.self.invariant.0 ∙ sym r.step.geometry,
       read_kept g.T.Tagger.data_tag_of g.T.Tagger.node_tag_of g.B.Bus.history g.B.Bus.moved lines c.args.line c.self.invariant.1 going inside new counters
           c.read_at-read.result c.read_at-read.ensures.read c.or-self-inside.result stops c.read_at-read.ensures.pages,
     )
@@ -51,19 +51,19 @@ returns-clause-value g c = λ _ quiet.
     let lines = sealed_lines_view c.self.inside in
     let new = c.read_at-read.new.outside in
     let counters = c.read_at-read.new.counters in
-    let inside : c.args.line < line_count lines.engine.levels = rw (← c.self.view_is) at c.requires.inside in
+    let inside : c.args.line < line_count lines.engine.geometry = rw (← c.self.view_is) at c.requires.inside in
     let going : lasting_stop lines.stopped ≡ None = sym c.lasting.ensures ∙ c.in_default.is in
     let stops : c.or-self-inside.result ≡ option_or (result_err c.read_at-read.result) lines.stopped =
     c.or-self-inside.ensures ∙ ap (λ (o : Option MemStop). option_or o lines.stopped) c.err.ensures.value in
     rw (← c.self.view_is)
-    (read_value lines.pads.key (line_count lines.engine.levels) lines.engine.made c.args.line c.read_at-read.result inside (c.read_at-read.ensures.read.value quiet))
+    (read_value lines.pads.key (line_count lines.engine.geometry) lines.engine.made c.args.line c.read_at-read.result inside (c.read_at-read.ensures.read.value quiet))
 
 pub returns-clause-contents : goal.returns-clause-contents
 returns-clause-contents g c =
     let lines = sealed_lines_view c.self.inside in
     let new = c.read_at-read.new.outside in
     let counters = c.read_at-read.new.counters in
-    let inside : c.args.line < line_count lines.engine.levels = rw (← c.self.view_is) at c.requires.inside in
+    let inside : c.args.line < line_count lines.engine.geometry = rw (← c.self.view_is) at c.requires.inside in
     let going : lasting_stop lines.stopped ≡ None = sym c.lasting.ensures ∙ c.in_default.is in
     let stops : c.or-self-inside.result ≡ option_or (result_err c.read_at-read.result) lines.stopped =
     c.or-self-inside.ensures ∙ ap (λ (o : Option MemStop). option_or o lines.stopped) c.err.ensures.value in
@@ -75,7 +75,7 @@ returns-clause-moved g c =
     let lines = sealed_lines_view c.self.inside in
     let new = c.read_at-read.new.outside in
     let counters = c.read_at-read.new.counters in
-    let inside : c.args.line < line_count lines.engine.levels = rw (← c.self.view_is) at c.requires.inside in
+    let inside : c.args.line < line_count lines.engine.geometry = rw (← c.self.view_is) at c.requires.inside in
     let going : lasting_stop lines.stopped ≡ None = sym c.lasting.ensures ∙ c.in_default.is in
     let stops : c.or-self-inside.result ≡ option_or (result_err c.read_at-read.result) lines.stopped =
     c.or-self-inside.ensures ∙ ap (λ (o : Option MemStop). option_or o lines.stopped) c.err.ensures.value in
@@ -87,7 +87,7 @@ returns-clause-unsealed g c =
     let lines = sealed_lines_view c.self.inside in
     let new = c.read_at-read.new.outside in
     let counters = c.read_at-read.new.counters in
-    let inside : c.args.line < line_count lines.engine.levels = rw (← c.self.view_is) at c.requires.inside in
+    let inside : c.args.line < line_count lines.engine.geometry = rw (← c.self.view_is) at c.requires.inside in
     let going : lasting_stop lines.stopped ≡ None = sym c.lasting.ensures ∙ c.in_default.is in
     let stops : c.or-self-inside.result ≡ option_or (result_err c.read_at-read.result) lines.stopped =
     c.or-self-inside.ensures ∙ ap (λ (o : Option MemStop). option_or o lines.stopped) c.err.ensures.value in
@@ -102,7 +102,7 @@ returns-clause-fits g c =
     let lines = sealed_lines_view c.self.inside in
     let new = c.read_at-read.new.outside in
     let counters = c.read_at-read.new.counters in
-    let inside : c.args.line < line_count lines.engine.levels = rw (← c.self.view_is) at c.requires.inside in
+    let inside : c.args.line < line_count lines.engine.geometry = rw (← c.self.view_is) at c.requires.inside in
     let going : lasting_stop lines.stopped ≡ None = sym c.lasting.ensures ∙ c.in_default.is in
     let stops : c.or-self-inside.result ≡ option_or (result_err c.read_at-read.result) lines.stopped =
     c.or-self-inside.ensures ∙ ap (λ (o : Option MemStop). option_or o lines.stopped) c.err.ensures.value in

@@ -43,12 +43,12 @@ invariant_of-self g c =
     let lines = sealed_lines_view c.self.inside in
     let new = c.write_next-written.new.outside in
     let counters = c.write_next-written.new.counters in
-    let inside : c.args.line < line_count lines.engine.levels = rw (← c.self.view_is) at c.requires.inside in
+    let inside : c.args.line < line_count lines.engine.geometry = rw (← c.self.view_is) at c.requires.inside in
     let going : lasting_stop lines.stopped ≡ None = sym c.lasting.ensures ∙ c.in_default.is in
     let stops : c.or-self-inside.result ≡ option_or (result_err c.write_next-written.result) lines.stopped =
     c.or-self-inside.ensures ∙ ap (λ (o : Option MemStop). option_or o lines.stopped) c.err.ensures.value in
     let w = c.write_next-written.ensures.written in (
-      c.self.invariant.0 ∙ sym w.step.levels,
+      c.self.invariant.0 ∙ sym w.step.geometry,
       write_kept g.T.Tagger.data_tag_of g.T.Tagger.node_tag_of g.B.Bus.history g.B.Bus.moved lines c.args.line c.args.bytes.now c.self.invariant.1 going inside new counters
           c.write_next-written.result c.write_next-written.ensures.written c.or-self-inside.result stops c.write_next-written.ensures.pages,
     )
@@ -58,7 +58,7 @@ returns-clause-fits g c =
     let lines = sealed_lines_view c.self.inside in
     let new = c.write_next-written.new.outside in
     let counters = c.write_next-written.new.counters in
-    let inside : c.args.line < line_count lines.engine.levels = rw (← c.self.view_is) at c.requires.inside in
+    let inside : c.args.line < line_count lines.engine.geometry = rw (← c.self.view_is) at c.requires.inside in
     let going : lasting_stop lines.stopped ≡ None = sym c.lasting.ensures ∙ c.in_default.is in
     let stops : c.or-self-inside.result ≡ option_or (result_err c.write_next-written.result) lines.stopped =
     c.or-self-inside.ensures ∙ ap (λ (o : Option MemStop). option_or o lines.stopped) c.err.ensures.value in
@@ -70,7 +70,7 @@ returns-clause-stored g c = λ _ quiet.
     let lines = sealed_lines_view c.self.inside in
     let new = c.write_next-written.new.outside in
     let counters = c.write_next-written.new.counters in
-    let inside : c.args.line < line_count lines.engine.levels = rw (← c.self.view_is) at c.requires.inside in
+    let inside : c.args.line < line_count lines.engine.geometry = rw (← c.self.view_is) at c.requires.inside in
     let going : lasting_stop lines.stopped ≡ None = sym c.lasting.ensures ∙ c.in_default.is in
     let stops : c.or-self-inside.result ≡ option_or (result_err c.write_next-written.result) lines.stopped =
     c.or-self-inside.ensures ∙ ap (λ (o : Option MemStop). option_or o lines.stopped) c.err.ensures.value in
@@ -82,7 +82,7 @@ returns-clause-refused g c = λ _ quiet.
     let lines = sealed_lines_view c.self.inside in
     let new = c.write_next-written.new.outside in
     let counters = c.write_next-written.new.counters in
-    let inside : c.args.line < line_count lines.engine.levels = rw (← c.self.view_is) at c.requires.inside in
+    let inside : c.args.line < line_count lines.engine.geometry = rw (← c.self.view_is) at c.requires.inside in
     let going : lasting_stop lines.stopped ≡ None = sym c.lasting.ensures ∙ c.in_default.is in
     let stops : c.or-self-inside.result ≡ option_or (result_err c.write_next-written.result) lines.stopped =
     c.or-self-inside.ensures ∙ ap (λ (o : Option MemStop). option_or o lines.stopped) c.err.ensures.value in
@@ -94,7 +94,7 @@ returns-clause-reread g c = λ quiet.
     let lines = sealed_lines_view c.self.inside in
     let new = c.write_next-written.new.outside in
     let counters = c.write_next-written.new.counters in
-    let inside : c.args.line < line_count lines.engine.levels = rw (← c.self.view_is) at c.requires.inside in
+    let inside : c.args.line < line_count lines.engine.geometry = rw (← c.self.view_is) at c.requires.inside in
     let going : lasting_stop lines.stopped ≡ None = sym c.lasting.ensures ∙ c.in_default.is in
     let stops : c.or-self-inside.result ≡ option_or (result_err c.write_next-written.result) lines.stopped =
     c.or-self-inside.ensures ∙ ap (λ (o : Option MemStop). option_or o lines.stopped) c.err.ensures.value in
@@ -106,7 +106,7 @@ returns-clause-moved g c =
     let lines = sealed_lines_view c.self.inside in
     let new = c.write_next-written.new.outside in
     let counters = c.write_next-written.new.counters in
-    let inside : c.args.line < line_count lines.engine.levels = rw (← c.self.view_is) at c.requires.inside in
+    let inside : c.args.line < line_count lines.engine.geometry = rw (← c.self.view_is) at c.requires.inside in
     let going : lasting_stop lines.stopped ≡ None = sym c.lasting.ensures ∙ c.in_default.is in
     let stops : c.or-self-inside.result ≡ option_or (result_err c.write_next-written.result) lines.stopped =
     c.or-self-inside.ensures ∙ ap (λ (o : Option MemStop). option_or o lines.stopped) c.err.ensures.value in
@@ -119,7 +119,7 @@ returns-clause-sealed g c =
     let lines = sealed_lines_view c.self.inside in
     let new = c.write_next-written.new.outside in
     let counters = c.write_next-written.new.counters in
-    let inside : c.args.line < line_count lines.engine.levels = rw (← c.self.view_is) at c.requires.inside in
+    let inside : c.args.line < line_count lines.engine.geometry = rw (← c.self.view_is) at c.requires.inside in
     let going : lasting_stop lines.stopped ≡ None = sym c.lasting.ensures ∙ c.in_default.is in
     let stops : c.or-self-inside.result ≡ option_or (result_err c.write_next-written.result) lines.stopped =
     c.or-self-inside.ensures ∙ ap (λ (o : Option MemStop). option_or o lines.stopped) c.err.ensures.value in
@@ -131,7 +131,7 @@ returns-clause-sealed_in_part g c =
     let lines = sealed_lines_view c.self.inside in
     let new = c.write_next-written.new.outside in
     let counters = c.write_next-written.new.counters in
-    let inside : c.args.line < line_count lines.engine.levels = rw (← c.self.view_is) at c.requires.inside in
+    let inside : c.args.line < line_count lines.engine.geometry = rw (← c.self.view_is) at c.requires.inside in
     let going : lasting_stop lines.stopped ≡ None = sym c.lasting.ensures ∙ c.in_default.is in
     let stops : c.or-self-inside.result ≡ option_or (result_err c.write_next-written.result) lines.stopped =
     c.or-self-inside.ensures ∙ ap (λ (o : Option MemStop). option_or o lines.stopped) c.err.ensures.value in
@@ -143,7 +143,7 @@ returns-clause-reserved g c =
     let lines = sealed_lines_view c.self.inside in
     let new = c.write_next-written.new.outside in
     let counters = c.write_next-written.new.counters in
-    let inside : c.args.line < line_count lines.engine.levels = rw (← c.self.view_is) at c.requires.inside in
+    let inside : c.args.line < line_count lines.engine.geometry = rw (← c.self.view_is) at c.requires.inside in
     let going : lasting_stop lines.stopped ≡ None = sym c.lasting.ensures ∙ c.in_default.is in
     let stops : c.or-self-inside.result ≡ option_or (result_err c.write_next-written.result) lines.stopped =
     c.or-self-inside.ensures ∙ ap (λ (o : Option MemStop). option_or o lines.stopped) c.err.ensures.value in
@@ -160,7 +160,7 @@ returns-clause-spent g c = λ _ quiet is.
     let lines = sealed_lines_view c.self.inside in
     let new = c.write_next-written.new.outside in
     let counters = c.write_next-written.new.counters in
-    let inside : c.args.line < line_count lines.engine.levels = rw (← c.self.view_is) at c.requires.inside in
+    let inside : c.args.line < line_count lines.engine.geometry = rw (← c.self.view_is) at c.requires.inside in
     let going : lasting_stop lines.stopped ≡ None = sym c.lasting.ensures ∙ c.in_default.is in
     let stops : c.or-self-inside.result ≡ option_or (result_err c.write_next-written.result) lines.stopped =
     c.or-self-inside.ensures ∙ ap (λ (o : Option MemStop). option_or o lines.stopped) c.err.ensures.value in
@@ -172,7 +172,7 @@ returns-clause-used_up g c = λ _ quiet last.
     let lines = sealed_lines_view c.self.inside in
     let new = c.write_next-written.new.outside in
     let counters = c.write_next-written.new.counters in
-    let inside : c.args.line < line_count lines.engine.levels = rw (← c.self.view_is) at c.requires.inside in
+    let inside : c.args.line < line_count lines.engine.geometry = rw (← c.self.view_is) at c.requires.inside in
     let going : lasting_stop lines.stopped ≡ None = sym c.lasting.ensures ∙ c.in_default.is in
     let stops : c.or-self-inside.result ≡ option_or (result_err c.write_next-written.result) lines.stopped =
     c.or-self-inside.ensures ∙ ap (λ (o : Option MemStop). option_or o lines.stopped) c.err.ensures.value in
@@ -184,7 +184,7 @@ returns-clause-spent_stays g c = λ page is.
     let lines = sealed_lines_view c.self.inside in
     let new = c.write_next-written.new.outside in
     let counters = c.write_next-written.new.counters in
-    let inside : c.args.line < line_count lines.engine.levels = rw (← c.self.view_is) at c.requires.inside in
+    let inside : c.args.line < line_count lines.engine.geometry = rw (← c.self.view_is) at c.requires.inside in
     let going : lasting_stop lines.stopped ≡ None = sym c.lasting.ensures ∙ c.in_default.is in
     let stops : c.or-self-inside.result ≡ option_or (result_err c.write_next-written.result) lines.stopped =
     c.or-self-inside.ensures ∙ ap (λ (o : Option MemStop). option_or o lines.stopped) c.err.ensures.value in
@@ -196,7 +196,7 @@ returns-clause-tampered g c = λ place _ is.
     let lines = sealed_lines_view c.self.inside in
     let new = c.write_next-written.new.outside in
     let counters = c.write_next-written.new.counters in
-    let inside : c.args.line < line_count lines.engine.levels = rw (← c.self.view_is) at c.requires.inside in
+    let inside : c.args.line < line_count lines.engine.geometry = rw (← c.self.view_is) at c.requires.inside in
     let going : lasting_stop lines.stopped ≡ None = sym c.lasting.ensures ∙ c.in_default.is in
     let stops : c.or-self-inside.result ≡ option_or (result_err c.write_next-written.result) lines.stopped =
     c.or-self-inside.ensures ∙ ap (λ (o : Option MemStop). option_or o lines.stopped) c.err.ensures.value in
@@ -208,7 +208,7 @@ returns-clause-untampered g c = λ other _ quiet short.
     let lines = sealed_lines_view c.self.inside in
     let new = c.write_next-written.new.outside in
     let counters = c.write_next-written.new.counters in
-    let inside : c.args.line < line_count lines.engine.levels = rw (← c.self.view_is) at c.requires.inside in
+    let inside : c.args.line < line_count lines.engine.geometry = rw (← c.self.view_is) at c.requires.inside in
     let going : lasting_stop lines.stopped ≡ None = sym c.lasting.ensures ∙ c.in_default.is in
     let stops : c.or-self-inside.result ≡ option_or (result_err c.write_next-written.result) lines.stopped =
     c.or-self-inside.ensures ∙ ap (λ (o : Option MemStop). option_or o lines.stopped) c.err.ensures.value in
@@ -220,7 +220,7 @@ returns-clause-last_untampered g c = λ other _ quiet last.
     let lines = sealed_lines_view c.self.inside in
     let new = c.write_next-written.new.outside in
     let counters = c.write_next-written.new.counters in
-    let inside : c.args.line < line_count lines.engine.levels = rw (← c.self.view_is) at c.requires.inside in
+    let inside : c.args.line < line_count lines.engine.geometry = rw (← c.self.view_is) at c.requires.inside in
     let going : lasting_stop lines.stopped ≡ None = sym c.lasting.ensures ∙ c.in_default.is in
     let stops : c.or-self-inside.result ≡ option_or (result_err c.write_next-written.result) lines.stopped =
     c.or-self-inside.ensures ∙ ap (λ (o : Option MemStop). option_or o lines.stopped) c.err.ensures.value in
@@ -232,7 +232,7 @@ returns-clause-failed g c = λ other _ quiet is.
     let lines = sealed_lines_view c.self.inside in
     let new = c.write_next-written.new.outside in
     let counters = c.write_next-written.new.counters in
-    let inside : c.args.line < line_count lines.engine.levels = rw (← c.self.view_is) at c.requires.inside in
+    let inside : c.args.line < line_count lines.engine.geometry = rw (← c.self.view_is) at c.requires.inside in
     let going : lasting_stop lines.stopped ≡ None = sym c.lasting.ensures ∙ c.in_default.is in
     let stops : c.or-self-inside.result ≡ option_or (result_err c.write_next-written.result) lines.stopped =
     c.or-self-inside.ensures ∙ ap (λ (o : Option MemStop). option_or o lines.stopped) c.err.ensures.value in

@@ -18,7 +18,7 @@ use Rattle.cache_set.specs.declared.way.Way.{Way}
 use Rattle.cache_set.specs.Cache.{copy_at, places}
 use Rattle.line_cache.specs.LineCache.{IsMissed, IsStoppedMiss, LineCacheView, brought, leaving}
 use Rattle.secure_memory.specs.LineCall.{IsLineCall}
-use Rattle.secure_memory.specs.SecureRam.{SecureRamView, IsMoved, IsNumberByCounters, IsNumberUnder, contents, evidence, levels, memory_accesses, stopped}
+use Rattle.secure_memory.specs.SecureRam.{SecureRamView, IsMoved, IsNumberByCounters, IsNumberUnder, contents, evidence, geometry, memory_accesses, stopped}
 use Rattle.secure_memory.proofs.LineCalls.{accepted_copy, alone_read, called, copy_held, few_so, fits_so, found_outside, memory_of, moved_so, ok_goes, once_so, spent_contents, stands_in, stopped_unmoved, stops_so}
 use Rattle.secure_memory.proofs.secure_ram.SecureRamRam.load.Given.{Over}
 use Rattle.secure_memory.proofs.secure_ram.SecureRamRam.load.Goals as goal
@@ -54,6 +54,7 @@ invariant_of-self g c =
           (going g c) c.load.ensures.moved (hit g c) c.load.ensures.missed,
       λ still. fits_so g.B.Bus.history g.B.Bus.moved tags cache c.load.new.self (line_of c.args.addr) (result_err c.load.result) (λ bytes. bytes)
           (going g c) c.load.ensures.moved (hit g c) c.load.ensures.missed (λ lasting. c.self.invariant.2 (going g c)) (ap lasting_stop still),
+      c.self.invariant.3 ∙ sym c.load.ensures.extent,
     )
 
 pub returns-clause-lines_fit : goal.returns-clause-lines_fit
@@ -73,7 +74,7 @@ pub returns-clause-once : goal.returns-clause-once
 returns-clause-once g c =
     let tags = tags_of g.T.Tagger.data_tag_of g.T.Tagger.node_tag_of in
     subst (λ (m : SecureRamView g.row.B.Denot g.row.T.Denot). (g.B.Bus.history c.load.new.self.store.bus).accesses
-    ≤ (g.B.Bus.history m.lines.bus).accesses + memory_accesses (levels m)) c.self.view_is
+    ≤ (g.B.Bus.history m.lines.bus).accesses + memory_accesses (geometry m).levels) c.self.view_is
     (once_so g.B.Bus.history g.B.Bus.moved tags c.self.inside.lines c.load.new.self (line_of c.args.addr) (result_err c.load.result) (λ bytes. bytes)
     (going g c) c.load.ensures.moved (hit g c) c.load.ensures.missed)
 

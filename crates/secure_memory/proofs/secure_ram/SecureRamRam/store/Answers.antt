@@ -16,7 +16,7 @@ use Rattle.page_reencrypt.proofs.Sealing.{listed_or_not}
 use Rattle.cache_set.specs.Cache.{copy_at, places}
 use Rattle.line_cache.specs.LineCache.{IsMissed, IsStoppedMiss, LineCacheView, brought, leaving, with_changed}
 use Rattle.secure_memory.specs.LineCall.{IsLineCall}
-use Rattle.secure_memory.specs.SecureRam.{SecureRamView, IsMoved, contents, levels, memory_accesses, stopped}
+use Rattle.secure_memory.specs.SecureRam.{SecureRamView, IsMoved, contents, geometry, memory_accesses, stopped}
 use Rattle.secure_memory.proofs.LineCalls.{accepted_copy, called, copy_held, few_so, fits_so, found_outside, memory_of, moved_so, ok_goes, once_so, spent_contents, stopped_unmoved, stops_so}
 use Rattle.secure_memory.proofs.secure_ram.SecureRamRam.store.Given.{Over}
 use Rattle.secure_memory.proofs.secure_ram.SecureRamRam.store.Goals as goal
@@ -52,6 +52,7 @@ invariant_of-self g c =
           (going g c) c.store.ensures.moved (hit g c) c.store.ensures.missed,
       λ still. fits_so g.B.Bus.history g.B.Bus.moved tags cache c.store.new.self (line_of c.args.addr) (result_err c.store.result) (λ bytes. with_number bytes (c.args.addr % 64) c.args.width c.args.value)
           (going g c) c.store.ensures.moved (hit g c) c.store.ensures.missed (λ lasting. c.self.invariant.2 (going g c)) (ap lasting_stop still),
+      c.self.invariant.3 ∙ sym c.store.ensures.extent,
     )
 
 pub returns-clause-lines_fit : goal.returns-clause-lines_fit
@@ -71,7 +72,7 @@ pub returns-clause-once : goal.returns-clause-once
 returns-clause-once g c =
     let tags = tags_of g.T.Tagger.data_tag_of g.T.Tagger.node_tag_of in
     subst (λ (m : SecureRamView g.row.B.Denot g.row.T.Denot). (g.B.Bus.history c.store.new.self.store.bus).accesses
-    ≤ (g.B.Bus.history m.lines.bus).accesses + memory_accesses (levels m)) c.self.view_is
+    ≤ (g.B.Bus.history m.lines.bus).accesses + memory_accesses (geometry m).levels) c.self.view_is
     (once_so g.B.Bus.history g.B.Bus.moved tags c.self.inside.lines c.store.new.self (line_of c.args.addr) (result_err c.store.result) (λ bytes. with_number bytes (c.args.addr % 64) c.args.width c.args.value)
     (going g c) c.store.ensures.moved (hit g c) c.store.ensures.missed)
 
