@@ -12,20 +12,21 @@ use Rattle.adversary_script.specs.declared.script.ScriptLine.{ScriptLine}
 use Rattle.adversary_script.specs.Grammar.{line_in, line_of, read_alone, script_line}
 use Rattle.adversary_script.specs.Words.{without_comment, words_of}
 use Rattle.adversary_script.specs.Script.{Fits, FitScript, LineFault, ◌>>=◌, in_line, script_from, script_of}
+use Rattle.sec_base.specs.Geometry.{GeometryView}
 
 -- ---- a line
 
-in_words : (levels : ℕ) (words : List (List ℕ)) → words ≢ [] → line_in levels words ≡ read_alone (script_line levels words)
-in_words levels [] some = absurd (some refl)
-in_words levels (first ∷ words) some = refl
+in_words : (geometry : GeometryView) (words : List (List ℕ)) → words ≢ [] → line_in geometry words ≡ read_alone (script_line geometry words)
+in_words geometry [] some = absurd (some refl)
+in_words geometry (first ∷ words) some = refl
 
-pub nothing_said : (levels : ℕ) (line : List ℕ) (words : List (List ℕ)) → words ≡ words_of (without_comment line) → words ≡ [] → Ok None ≡ line_of levels line
+pub nothing_said : (geometry : GeometryView) (line : List ℕ) (words : List (List ℕ)) → words ≡ words_of (without_comment line) → words ≡ [] → Ok None ≡ line_of geometry line
 unfolding line_of
-nothing_said levels line words e none = ap (line_in levels) (sym none ∙ e)
+nothing_said geometry line words e none = ap (line_in geometry) (sym none ∙ e)
 
-pub line_said : (levels : ℕ) (line : List ℕ) (words : List (List ℕ)) → words ≡ words_of (without_comment line) → words ≢ [] → read_alone (script_line levels words) ≡ line_of levels line
+pub line_said : (geometry : GeometryView) (line : List ℕ) (words : List (List ℕ)) → words ≡ words_of (without_comment line) → words ≢ [] → read_alone (script_line geometry words) ≡ line_of geometry line
 unfolding line_of
-line_said levels line words e some = sym (in_words levels words some) ∙ ap (line_in levels) e
+line_said geometry line words e some = sym (in_words geometry words some) ∙ ap (line_in geometry) e
 
 -- ---- the lines of a text
 
@@ -46,51 +47,51 @@ no_words : words_of [] ≡ []
 unfolding words_of
 no_words = refl
 
-no_line : (levels : ℕ) → line_of levels [] ≡ Ok None
-no_line levels = sym (nothing_said levels [] [] (sym no_words) refl)
+no_line : (geometry : GeometryView) → line_of geometry [] ≡ Ok None
+no_line geometry = sym (nothing_said geometry [] [] (sym no_words) refl)
 
-no_lines : (levels number : ℕ) → script_from levels number (lines_of []) ≡ Ok []
+no_lines : (geometry : GeometryView) (number : ℕ) → script_from geometry number (lines_of []) ≡ Ok []
 unfolding script_from lines_of
-no_lines levels number = ap (λ said. before_others number said (Ok [])) (no_line levels)
+no_lines geometry number = ap (λ said. before_others number said (Ok [])) (no_line geometry)
 
 -- the lines of what is left behind a line feed, or of nothing
-left_over : (levels number : ℕ) (cut : Option (Bor (List ℕ))) (rest nothing : Bor (List ℕ)) → rest ≡ unwrap_or cut nothing → nothing.now ≡ [] → script_from levels number (lines_of rest.now) ≡ script_from levels number (lines_left cut)
+left_over : (geometry : GeometryView) (number : ℕ) (cut : Option (Bor (List ℕ))) (rest nothing : Bor (List ℕ)) → rest ≡ unwrap_or cut nothing → nothing.now ≡ [] → script_from geometry number (lines_of rest.now) ≡ script_from geometry number (lines_left cut)
 unfolding script_from
-left_over levels number (Some text) rest nothing e none = ap (λ each. script_from levels number (lines_of each.now)) e
-left_over levels number None rest nothing e none =
-    ap (λ each. script_from levels number (lines_of each.now)) e
-    ∙ ap (λ each. script_from levels number (lines_of each)) none ∙ no_lines levels number
+left_over geometry number (Some text) rest nothing e none = ap (λ each. script_from geometry number (lines_of each.now)) e
+left_over geometry number None rest nothing e none =
+    ap (λ each. script_from geometry number (lines_of each.now)) e
+    ∙ ap (λ each. script_from geometry number (lines_of each)) none ∙ no_lines geometry number
 
-one_line : (levels number : ℕ) (text line : List ℕ) (cut : Option (Bor (List ℕ))) → lines_of text ≡ line ∷ lines_left cut → script_from levels number (lines_of text) ≡ before_others number (line_of levels line) (script_from levels (number + 1) (lines_left cut))
+one_line : (geometry : GeometryView) (number : ℕ) (text line : List ℕ) (cut : Option (Bor (List ℕ))) → lines_of text ≡ line ∷ lines_left cut → script_from geometry number (lines_of text) ≡ before_others number (line_of geometry line) (script_from geometry (number + 1) (lines_left cut))
 unfolding script_from
-one_line levels number text line cut e = ap (script_from levels number) e
+one_line geometry number text line cut e = ap (script_from geometry number) e
 
-pub goes_on : (levels number : ℕ) (text line : List ℕ) (cut : Option (Bor (List ℕ))) (rest nothing : Bor (List ℕ)) (said : Option ScriptLine) (items new : List ScriptLine) (whole : Result (List ScriptLine) LineFault) →
-    lines_of text ≡ line ∷ lines_left cut → rest ≡ unwrap_or cut nothing → nothing.now ≡ [] → Ok said ≡ line_of levels line → new ≡ items ++ option_to_list said →
-    behind items (script_from levels number (lines_of text)) ≡ whole → behind new (script_from levels (number + 1) (lines_of rest.now)) ≡ whole
-goes_on levels number text line cut rest nothing said items new whole e f none says joins so_far =
-    ap (behind new) (left_over levels (number + 1) cut rest nothing f none)
-    ∙ joined number said items new (script_from levels (number + 1) (lines_left cut)) joins
-    ∙ ap (λ each. behind items (before_others number each (script_from levels (number + 1) (lines_left cut)))) says
-    ∙ ap (behind items) (sym (one_line levels number text line cut e)) ∙ so_far
+pub goes_on : (geometry : GeometryView) (number : ℕ) (text line : List ℕ) (cut : Option (Bor (List ℕ))) (rest nothing : Bor (List ℕ)) (said : Option ScriptLine) (items new : List ScriptLine) (whole : Result (List ScriptLine) LineFault) →
+    lines_of text ≡ line ∷ lines_left cut → rest ≡ unwrap_or cut nothing → nothing.now ≡ [] → Ok said ≡ line_of geometry line → new ≡ items ++ option_to_list said →
+    behind items (script_from geometry number (lines_of text)) ≡ whole → behind new (script_from geometry (number + 1) (lines_of rest.now)) ≡ whole
+goes_on geometry number text line cut rest nothing said items new whole e f none says joins so_far =
+    ap (behind new) (left_over geometry (number + 1) cut rest nothing f none)
+    ∙ joined number said items new (script_from geometry (number + 1) (lines_left cut)) joins
+    ∙ ap (λ each. behind items (before_others number each (script_from geometry (number + 1) (lines_left cut)))) says
+    ∙ ap (behind items) (sym (one_line geometry number text line cut e)) ∙ so_far
 
-stopped : (levels number : ℕ) (text line : List ℕ) (cut : Option (Bor (List ℕ))) (items : List ScriptLine) (code : ScriptFault) (whole : Result (List ScriptLine) LineFault) →
-    lines_of text ≡ line ∷ lines_left cut → Err code ≡ line_of levels line → behind items (script_from levels number (lines_of text)) ≡ whole → whole ≡ Err (record { line = number; code = code })
-stopped levels number text line cut items code whole e says so_far =
-    sym so_far ∙ ap (behind items) (one_line levels number text line cut e)
-    ∙ ap (λ each. behind items (before_others number each (script_from levels (number + 1) (lines_left cut)))) (sym says)
+stopped : (geometry : GeometryView) (number : ℕ) (text line : List ℕ) (cut : Option (Bor (List ℕ))) (items : List ScriptLine) (code : ScriptFault) (whole : Result (List ScriptLine) LineFault) →
+    lines_of text ≡ line ∷ lines_left cut → Err code ≡ line_of geometry line → behind items (script_from geometry number (lines_of text)) ≡ whole → whole ≡ Err (record { line = number; code = code })
+stopped geometry number text line cut items code whole e says so_far =
+    sym so_far ∙ ap (behind items) (one_line geometry number text line cut e)
+    ∙ ap (λ each. behind items (before_others number each (script_from geometry (number + 1) (lines_left cut)))) (sym says)
 
 -- the first fault of all of a text
-pub stops : (levels number : ℕ) (all text line : List ℕ) (cut : Option (Bor (List ℕ))) (items : List ScriptLine) (code : ScriptFault) →
-    lines_of text ≡ line ∷ lines_left cut → Err code ≡ line_of levels line → behind items (script_from levels number (lines_of text)) ≡ script_from levels 1 (lines_of all) → script_of levels all ≡ Err (record { line = number; code = code })
+pub stops : (geometry : GeometryView) (number : ℕ) (all text line : List ℕ) (cut : Option (Bor (List ℕ))) (items : List ScriptLine) (code : ScriptFault) →
+    lines_of text ≡ line ∷ lines_left cut → Err code ≡ line_of geometry line → behind items (script_from geometry number (lines_of text)) ≡ script_from geometry 1 (lines_of all) → script_of geometry all ≡ Err (record { line = number; code = code })
 unfolding script_of
-stops levels number all text line cut items code e says so_far = stopped levels number text line cut items code _ e says so_far
+stops geometry number all text line cut items code e says so_far = stopped geometry number text line cut items code _ e says so_far
 
 -- the script of all of a text
-pub ends : (levels number : ℕ) (all text : List ℕ) (items : List ScriptLine) → length text ≡ 0 → behind items (script_from levels number (lines_of text)) ≡ script_from levels 1 (lines_of all) → script_of levels all ≡ Ok items
+pub ends : (geometry : GeometryView) (number : ℕ) (all text : List ℕ) (items : List ScriptLine) → length text ≡ 0 → behind items (script_from geometry number (lines_of text)) ≡ script_from geometry 1 (lines_of all) → script_of geometry all ≡ Ok items
 unfolding script_of
-ends levels number all [] items none so_far = sym so_far ∙ ap (behind items) (no_lines levels number) ∙ ap Ok (append-nil items)
-ends levels number all (x ∷ xs) items none so_far = grind (arith, none)
+ends geometry number all [] items none so_far = sym so_far ∙ ap (behind items) (no_lines geometry number) ∙ ap Ok (append-nil items)
+ends geometry number all (x ∷ xs) items none so_far = grind (arith, none)
 
 -- less of the text is left
 pub shorter : (text : List ℕ) (cut : Option (Bor (List ℕ))) (rest nothing : Bor (List ℕ)) → rest ≡ unwrap_or cut nothing → nothing.now ≡ [] → 0 < length text → IfSome cut (λ left. length left.now < length text) → length rest.now < length text
@@ -99,11 +100,11 @@ shorter text (Some left) rest nothing e none some less = rw e less
 
 -- ---- actions fit the memory
 
-said_fits : (levels : ℕ) (said : Option ScriptLine) → IfSome said (λ line. Fits levels line.action) → FitScript levels (option_to_list said)
-said_fits levels None fits = All-nil (λ line. Fits levels line.action)
-said_fits levels (Some line) fits = λ k d below. let none : k ≡ 0 = omega (arith, below) in rw none fits
+said_fits : (geometry : GeometryView) (said : Option ScriptLine) → IfSome said (λ line. Fits geometry line.action) → FitScript geometry (option_to_list said)
+said_fits geometry None fits = All-nil (λ line. Fits geometry line.action)
+said_fits geometry (Some line) fits = λ k d below. let none : k ≡ 0 = omega (arith, below) in rw none fits
 
-pub joined_fit : (levels : ℕ) (said : Option ScriptLine) (items new : List ScriptLine) → new ≡ items ++ option_to_list said → FitScript levels items → IfSome said (λ line. Fits levels line.action) → FitScript levels new
-joined_fit levels said items new e fit more =
-    let P : List ScriptLine → Type 0 = λ lines. FitScript levels lines in
-    subst P (sym e) (All-append (λ line. Fits levels line.action) items (option_to_list said) fit (said_fits levels said more))
+pub joined_fit : (geometry : GeometryView) (said : Option ScriptLine) (items new : List ScriptLine) → new ≡ items ++ option_to_list said → FitScript geometry items → IfSome said (λ line. Fits geometry line.action) → FitScript geometry new
+joined_fit geometry said items new e fit more =
+    let P : List ScriptLine → Type 0 = λ lines. FitScript geometry lines in
+    subst P (sym e) (All-append (λ line. Fits geometry line.action) items (option_to_list said) fit (said_fits geometry said more))

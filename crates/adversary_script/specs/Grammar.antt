@@ -2,8 +2,8 @@
 use Rattle.std.specs.Prelude.{ℕ, ◌-◌, ◌^◌, List, [], ◌∷◌, Bool, true, false, ◌&&◌, nat_lt, nat_le, Option, Some, None, Result, Ok, Err, codes, if◌then◌else◌}
 use Rattle.std.specs.Str.{bytes_eq}
 use Rattle.arrayvec.specs.ArrayVec.{ArrayVec}
-use Rattle.sec_base.specs.Geometry.{line_count, width}
-use Rattle.sec_base.specs.Place.{place_size}
+use Rattle.sec_base.specs.Geometry.{GeometryView, line_count, width}
+use Rattle.sec_base.specs.Place.{stored_size}
 use Rattle.sec_base.specs.declared.place.Place.{Place}
 use Rattle.sec_base.specs.declared.place.Place.TheVariants.{Line, Node}
 use Rattle.adversary_script.specs.declared.fault.ScriptFault.{ScriptFault}
@@ -34,70 +34,70 @@ kind_word = do
   found (kind_named name) fault.Word
 
 -- the place is one of the memory's
-abbrev pub is_place : ℕ → Place → Bool
-is_place levels (Line line) = nat_lt line (line_count levels)
-is_place levels (Node level index) = nat_le level levels && nat_lt index (width levels level)
+abbrev pub is_place : GeometryView → Place → Bool
+is_place geometry (Line line) = nat_lt line (line_count geometry)
+is_place geometry (Node level index) = nat_le level geometry.levels && nat_lt index (width geometry level)
 
 -- a place whose last number was read, where it is one of the memory's
-abbrev pub inside : ℕ → Place → Reading Place
-inside levels place = if is_place levels place then done place else fails fault.Place
+abbrev pub inside : GeometryView → Place → Reading Place
+inside geometry place = if is_place geometry place then done place else fails fault.Place
 
 -- a place of this kind
-abbrev pub place_of_kind : ℕ → Kind → Reading Place
-place_of_kind levels kind.Line = do
+abbrev pub place_of_kind : GeometryView → Kind → Reading Place
+place_of_kind geometry kind.Line = do
   line ← number_below (2 ^ 32)
-  inside levels (Line line)
-place_of_kind levels kind.Node = do
+  inside geometry (Line line)
+place_of_kind geometry kind.Node = do
   level ← number_below 256
   index ← number_below (2 ^ 32)
-  inside levels (Node level index)
+  inside geometry (Node level index)
 
--- reads a place of the memory of a tree with these levels
-abbrev pub place : ℕ → Reading Place
-place levels = kind_word >>= place_of_kind levels
+-- reads a place of the memory of a tree of this geometry
+abbrev pub place : GeometryView → Reading Place
+place geometry = kind_word >>= place_of_kind geometry
 
 -- ---- triggers: `access N`, `read PLACE K` or `write PLACE K`
 
 -- reads what follows the first word of a trigger: a count, or a place and a count
-abbrev pub trigger_named : ℕ → List ℕ → Reading Trigger
-trigger_named levels name =
+abbrev pub trigger_named : GeometryView → List ℕ → Reading Trigger
+trigger_named geometry name =
     if bytes_eq name (codes "access") then (do
       n ← ordinal
       done (Access n))
     else if bytes_eq name (codes "read") then (do
-      at ← place levels
+      at ← place geometry
       k ← ordinal
       done (Read at k))
     else if bytes_eq name (codes "write") then (do
-      at ← place levels
+      at ← place geometry
       k ← ordinal
       done (Write at k))
     else fails fault.Word
 
 -- reads a trigger, whose first word says which it is
-abbrev pub trigger : ℕ → Reading Trigger
-trigger levels = word >>= trigger_named levels
+abbrev pub trigger : GeometryView → Reading Trigger
+trigger geometry = word >>= trigger_named geometry
 
 -- ---- actions
 
 -- bytes and where they go: `PLACE OFFSET HEX`, which end inside the place
-abbrev pub span : ℕ → Reading (Place × ℕ × ArrayVec ℕ)
-span levels = do
-  at ← place levels
+abbrev pub span : GeometryView → Reading (Place × ℕ × ArrayVec ℕ)
+span geometry = do
+  at ← place geometry
   offset ← number_below (2 ^ 32)
-  bytes ← bytes_within (place_size at - offset)
+  bytes ← bytes_within (stored_size geometry at - offset)
   done (at, offset, bytes)
 
 -- `set PLACE OFFSET HEX`
-abbrev pub set_action : ℕ → Reading Action
-set_action levels = do
-  new ← span levels
+abbrev pub set_action : GeometryView → Reading Action
+set_action geometry = do
+  new ← span geometry
   done (Set new.0 new.1 new.2)
 
 -- `flip PLACE OFFSET HEX`
-abbrev pub flip_action : ℕ → Reading Action
-flip_action levels = do
-  mask ← span levels
+abbrev pub flip_action : GeometryView → Reading Action
+flip_action geometry = do
+  mask ← span geometry
   done (Flip mask.0 mask.1 mask.2)
 
 -- a data line is of the one kind, a node of the tree of the other
@@ -114,43 +114,43 @@ same_kind first = do
   if is_of_kind first other then done other else fails fault.Span
 
 -- `swap PLACE PLACE`
-abbrev pub swap_action : ℕ → Reading Action
-swap_action levels = do
-  first ← place levels
+abbrev pub swap_action : GeometryView → Reading Action
+swap_action geometry = do
+  first ← place geometry
   other ← same_kind first
-  second ← place_of_kind levels other
+  second ← place_of_kind geometry other
   done (Swap first second)
 
--- `put PLACE HEX`, with all bytes of the place
-abbrev pub put_action : ℕ → Reading Action
-put_action levels = do
-  at ← place levels
-  bytes ← bytes_of_len (place_size at)
+-- `put PLACE HEX`, with all bytes of the place that may be set
+abbrev pub put_action : GeometryView → Reading Action
+put_action geometry = do
+  at ← place geometry
+  bytes ← bytes_of_len (stored_size geometry at)
   done (Put at bytes)
 
 -- `save R PLACE`
-abbrev pub save_action : ℕ → Reading Action
-save_action levels = do
+abbrev pub save_action : GeometryView → Reading Action
+save_action geometry = do
   number ← register
-  at ← place levels
+  at ← place geometry
   done (Save number at)
 
 -- `restore R PLACE`
-abbrev pub restore_action : ℕ → Reading Action
-restore_action levels = do
+abbrev pub restore_action : GeometryView → Reading Action
+restore_action geometry = do
   number ← register
-  at ← place levels
+  at ← place geometry
   done (Restore number at)
 
 -- by their first words, with `saveall R` and `restoreall R`
-abbrev pub action_named : ℕ → List ℕ → Reading Action
-action_named levels name =
-    if bytes_eq name (codes "set") then set_action levels
-    else if bytes_eq name (codes "flip") then flip_action levels
-    else if bytes_eq name (codes "swap") then swap_action levels
-    else if bytes_eq name (codes "put") then put_action levels
-    else if bytes_eq name (codes "save") then save_action levels
-    else if bytes_eq name (codes "restore") then restore_action levels
+abbrev pub action_named : GeometryView → List ℕ → Reading Action
+action_named geometry name =
+    if bytes_eq name (codes "set") then set_action geometry
+    else if bytes_eq name (codes "flip") then flip_action geometry
+    else if bytes_eq name (codes "swap") then swap_action geometry
+    else if bytes_eq name (codes "put") then put_action geometry
+    else if bytes_eq name (codes "save") then save_action geometry
+    else if bytes_eq name (codes "restore") then restore_action geometry
     else if bytes_eq name (codes "saveall") then (do
       number ← register
       done (SaveAll number))
@@ -160,17 +160,17 @@ action_named levels name =
     else fails fault.Word
 
 -- reads an action, whose first word says which it is
-abbrev pub action : ℕ → Reading Action
-action levels = word >>= action_named levels
+abbrev pub action : GeometryView → Reading Action
+action geometry = word >>= action_named geometry
 
 -- ---- lines: `TRIGGER: ACTION`, or nothing
 
 -- reads a whole line: a trigger, a colon and an action, with no word after them
-abbrev pub script_line : ℕ → Reading ScriptLine
-script_line levels = do
-  when ← trigger levels
+abbrev pub script_line : GeometryView → Reading ScriptLine
+script_line geometry = do
+  when ← trigger geometry
   colon ← colon_word
-  what ← action levels
+  what ← action geometry
   end_of_line (record { trigger = when; action = what })
 
 -- what was read, without the words behind it
@@ -179,10 +179,10 @@ read_alone (Ok read) = Ok (Some read.0)
 read_alone (Err fault) = Err fault
 
 -- the trigger and the action that the words of a line spell; nothing where there is no word
-abbrev pub line_in : ℕ → List (List ℕ) → Result (Option ScriptLine) ScriptFault
-line_in levels [] = Ok None
-line_in levels (first ∷ words) = read_alone (script_line levels (first ∷ words))
+abbrev pub line_in : GeometryView → List (List ℕ) → Result (Option ScriptLine) ScriptFault
+line_in geometry [] = Ok None
+line_in geometry (first ∷ words) = read_alone (script_line geometry (first ∷ words))
 
 -- what a line says, where it says something, or its first fault
-unfoldable pub line_of : ℕ → List ℕ → Result (Option ScriptLine) ScriptFault
-line_of levels line = line_in levels (words_of (without_comment line))
+unfoldable pub line_of : GeometryView → List ℕ → Result (Option ScriptLine) ScriptFault
+line_of geometry line = line_in geometry (words_of (without_comment line))

@@ -3,7 +3,7 @@
 ghost use Rattle.adversary_script.specs.Grammar as spec;
 ghost use Rattle.adversary_script.specs.Parts.{with_left};
 ghost use Rattle.adversary_script.specs.Script.{Fits};
-ghost use Rattle.sec_base.specs.Place.{IsPlace, place_size};
+ghost use Rattle.sec_base.specs.Place.{IsPlace, stored_size};
 ghost use Rattle.std.specs.Prelude.{IfOk, length, ◌+◌, ◌≡◌, ◌≤◌};
 
 use crate::bytes::{bytes_of_len, bytes_within};
@@ -71,11 +71,11 @@ fn flip_action(words: &mut Words, geometry: Geometry) -> Result<Action, ScriptFa
 fn span(words: &mut Words, geometry: Geometry) -> Result<(Place, u8, PlaceBytes), ScriptFault>
     ensures value { with_left result words.new ≡ spec.span geometry words.old }
     ensures inside { IfOk result (λ span. IsPlace geometry span.0) }
-    ensures fits { IfOk result (λ span. span.1 + length span.2.items ≤ place_size span.0) }
+    ensures fits { IfOk result (λ span. span.1 + length span.2.items ≤ stored_size geometry span.0) }
 {
     let place = place(words, geometry)?;
     let offset = number_below(words, 1 << 32)? as usize;
-    let bytes = bytes_within(words, place_len(place).saturating_sub(offset))?;
+    let bytes = bytes_within(words, place_len(geometry, place).saturating_sub(offset))?;
     Ok((place, offset as u8, bytes))
 }
 
@@ -93,13 +93,13 @@ fn swap_action(words: &mut Words, geometry: Geometry) -> Result<Action, ScriptFa
     Ok(Action::Swap { first, second })
 }
 
-// The bytes of a whole place are put there.
+// All bytes are put that the place may store.
 fn put_action(words: &mut Words, geometry: Geometry) -> Result<Action, ScriptFault>
     ensures value { with_left result words.new ≡ spec.put_action geometry words.old }
     ensures fits { IfOk result (Fits geometry) }
 {
     let place = place(words, geometry)?;
-    let bytes = bytes_of_len(words, place_len(place))?;
+    let bytes = bytes_of_len(words, place_len(geometry, place))?;
     Ok(Action::Put { place, bytes })
 }
 

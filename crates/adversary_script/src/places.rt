@@ -3,13 +3,13 @@
 ghost use Rattle.adversary_script.specs.Grammar as spec;
 ghost use Rattle.adversary_script.specs.Grammar.{is_of_kind, is_place, kind_named};
 ghost use Rattle.adversary_script.specs.Parts.{with_left};
-ghost use Rattle.sec_base.specs.Place.{IsPlace, place_size};
+ghost use Rattle.sec_base.specs.Place.{IsPlace, stored_size};
 ghost use Rattle.std.specs.Prelude.{IfOk, ◌≡◌, ◌≤◌};
 
 use crate::fault::ScriptFault;
 use crate::numbers::number_below;
 use crate::words::Words;
-use sec_base::{Geometry, LINE_LEN, Place, TAG_LEN};
+use sec_base::{Geometry, LINE_LEN, Place};
 
 /// The two kinds of places.
 #[derive(Clone, Copy, Debug, PartialEq, Eq)]
@@ -86,13 +86,14 @@ pub fn is_of_kind(place: Place, kind: Kind) -> bool
     }
 }
 
-/// How many bytes a place has.
-pub fn place_len(place: Place) -> usize
-    ensures len { result ≡ place_size place }
+/// How many bytes of a place may be set.
+#[tactic(auto, using(sec_base::proofs::Slots::slot_short))]
+pub fn place_len(geometry: Geometry, place: Place) -> usize
+    ensures len { result ≡ stored_size geometry place }
     ensures most { result ≤ 80 }
 {
     match place {
-        Place::Line(_) => LINE_LEN as usize + TAG_LEN,
+        Place::Line(_) => LINE_LEN as usize + geometry.slot_len(),
         Place::Node { .. } => LINE_LEN as usize,
     }
 }

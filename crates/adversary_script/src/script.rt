@@ -41,7 +41,7 @@ pub enum Action {
         first: Place,
         second: Place,
     },
-    /// The bytes of a whole place are put there.
+    /// All bytes are put that the place may store, and zeros behind them.
     Put {
         place: Place,
         bytes: PlaceBytes,

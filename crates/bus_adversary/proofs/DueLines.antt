@@ -4,6 +4,7 @@ use Rattle.bus_adversary.specs.ChangedPlaces.{ChangesOnly, may_change, script_ma
 use Rattle.bus_adversary.specs.Adversary.{AdversaryView, after_due, after_line}
 use Rattle.bus_adversary.specs.StoredPlaces.{StoredPlacesView}
 use Rattle.bus_adversary.specs.declared.next_access.NextAccess.{NextAccess}
+use Rattle.sec_base.specs.Geometry.{GeometryView}
 use Rattle.sec_base.specs.Place.{IsPlace}
 use Rattle.std.proofs.Common.{Bool, List, ap, false, length, refl, slice_index_or, subst, sym, take, true, ℕ, ◌+◌, ◌<◌, ◌∙◌, ◌≡◌}
 use Rattle.std.proofs.lemmas.List.Folds.{list_any_at}
@@ -31,10 +32,10 @@ none_at test script i line inside is none =
 
 -- and leaves the places that no line may change
 pub changes_more : (script : List ScriptLine) (i : ℕ) (line : ScriptLine) (first old new : StoredPlacesView) → i < length script →
-    line ≡ slice_index_or script i line → old.levels ≡ first.levels → ChangesOnly first old (script_may_change script) →
+    line ≡ slice_index_or script i line → old.geometry ≡ first.geometry → ChangesOnly first old (script_may_change script) →
     ChangesOnly old new (may_change line.action) → ChangesOnly first new (script_may_change script)
-changes_more script i line first old new inside is levels before step =
+changes_more script i line first old new inside is geometry before step =
     λ other there unchanged.
-    step other (subst (λ (n : ℕ). IsPlace n other) (sym levels) there)
+    step other (subst (λ (g : GeometryView). IsPlace g other) (sym geometry) there)
     (none_at (λ (l : ScriptLine). may_change l.action other) script i line inside is unchanged)
     ∙ before other there unchanged

@@ -1,5 +1,7 @@
 pub mod TwoParts
 pub mod MaskedBytes
+pub mod PlaceEnds
+pub mod KeptPlaces
 pub mod PlaceChanges
 pub mod DueLines
 pub mod ScriptTies

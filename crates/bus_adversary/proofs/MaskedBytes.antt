@@ -1,6 +1,6 @@
 -- Bytes that are xored one after another.
-use Rattle.bus_adversary.specs.PlaceBytes.{with_mask, with_bytes, xored_bytes}
-use Rattle.std.proofs.Common.{List, [], add-one, ap, arith, bit_xor, drop, drop-cons, length, refl, slice_index, slice_set, suc, take, zero, ℕ, ◌+◌, ◌++◌, ◌<◌, ◌∙◌, ◌∷◌, ◌≡◌}
+use Rattle.bus_adversary.specs.PlaceBytes.{with_mask}
+use Rattle.std.proofs.Common.{List, [], add-one, ap, arith, bit_xor, drop, drop-cons, length, refl, slice_index, slice_set, suc, zero, ℕ, ◌+◌, ◌<◌, ◌∙◌, ◌∷◌, ◌≡◌}
 
 -- one more byte of the mask
 mask_first : (offset bits : ℕ) (mask bytes : List ℕ) → offset < length bytes →

@@ -10,6 +10,7 @@ use Rattle.bus_model.specs.BusHistory.{BusHistory, after_read, after_write, new_
 use Rattle.sec_base.specs.Count.{more_by}
 use Rattle.sec_base.specs.declared.place.Place.{Place}
 use Rattle.std.proofs.Common.{List, ap, refl, ℕ, ◌∙◌, ◌≡◌}
+use Rattle.sec_base.specs.Geometry.{GeometryView}
 
 -- what goes on in the state of a bus with this history
 abbrev state : AdversaryView → BusHistory → PlaceCountsView → ScriptState
@@ -67,7 +68,7 @@ written_state script history history' adversary adversary' adversary'' writes wr
     counted
 
 -- before the first call
-pub new_is_state : (history : BusHistory) (adversary : AdversaryView) (writes : PlaceCountsView) (levels : ℕ) →
-    history ≡ new_history levels → adversary ≡ new_adversary levels → writes ≡ new_counts levels → state adversary history writes ≡ new_state levels
-new_is_state history adversary writes levels is none uncounted =
+pub new_is_state : (history : BusHistory) (adversary : AdversaryView) (writes : PlaceCountsView) (geometry : GeometryView) →
+    history ≡ new_history geometry → adversary ≡ new_adversary geometry → writes ≡ new_counts geometry → state adversary history writes ≡ new_state geometry
+new_is_state history adversary writes geometry is none uncounted =
     same_state none (ap (λ (h : BusHistory). h.accesses) is) (ap (λ (h : BusHistory). h.reads) is) uncounted

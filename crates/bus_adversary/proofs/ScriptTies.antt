@@ -1,7 +1,8 @@
 -- What is stored and what was written, over the calls of a bus that follows a script.
 use Rattle.adversary_script.specs.Script.{FitScript}
 use Rattle.adversary_script.specs.declared.script.ScriptLine.{ScriptLine}
-use Rattle.bus_adversary.proofs.PlaceChanges.{put_changes, same_levels}
+use Rattle.bus_adversary.proofs.PlaceChanges.{put_changes, same_geometry}
+use Rattle.bus_adversary.proofs.PlaceEnds.{one_item}
 use Rattle.bus_adversary.specs.ChangedPlaces.{ChangesOnly, script_may_change}
 use Rattle.bus_adversary.specs.ScriptBus.{ChangedByScript}
 use Rattle.bus_adversary.specs.StoredPlaces.{StoredPlacesView, bytes_at, empty_line, empty_node, new_places, with_place}
@@ -10,31 +11,28 @@ use Rattle.bus_adversary.specs.declared.stored_places.NodeBytes.{NodeBytes}
 use Rattle.bus_model.proofs.Steps.{true_or_false}
 use Rattle.bus_model.specs.BusHistory.{BusHistory, Lie, after_read, after_write, first_lie, new_history}
 use Rattle.sec_base.proofs.SamePlaces.{place_eq-Decides}
-use Rattle.sec_base.specs.Geometry.{line_count, node_end, node_number}
+use Rattle.sec_base.specs.Geometry.{GeometryView, line_count, node_end, node_number}
 use Rattle.sec_base.specs.Place.{IsPlace, at_place, place_eq, zeros_of}
 use Rattle.sec_base.specs.declared.place.Place.{Place}
 use Rattle.sec_base.specs.declared.place.Place.TheVariants.{Line, Node}
-use Rattle.std.proofs.Common.{Bool, List, None, Option, Some, ap, arith, cond, false, inl, inr, nat_eq, refl, replicate, slice_index_or, subst, sym, true, ℕ, ◌∙◌, ◌≡◌, ◌≢◌}
-use Rattle.std.proofs.Math.ListN.{get_or-eq_default}
+use Rattle.std.proofs.Common.{Bool, List, None, Option, Some, ap, cond, false, inl, inr, nat_eq, refl, subst, sym, true, ℕ, ◌∙◌, ◌≡◌, ◌≢◌}
 use Rattle.std.proofs.lemmas.Bool.Decides.{Decides-eqb}
-use Rattle.std.proofs.lemmas.Bool.{cases_lt}
-use Rattle.std.proofs.lemmas.List.{get_or-replicate, length-replicate}
 use Rattle.std.specs.Bool.{Decides}
 use Rattle.std.specs.Prelude.{IfSome}
 
 -- the due actions were done
 follows_due : (script : List ScriptLine) (history : BusHistory) (places places' : StoredPlacesView) → ChangedByScript script history places →
-    places'.levels ≡ places.levels → ChangesOnly places places' (script_may_change script) → ChangedByScript script history places'
-follows_due script history places places' follows levels changes = record {
-  levels = levels ∙ follows.levels;
+    places'.geometry ≡ places.geometry → ChangesOnly places places' (script_may_change script) → ChangedByScript script history places'
+follows_due script history places places' follows geometry changes = record {
+  geometry = geometry ∙ follows.geometry;
   fits = follows.fits;
-  stored = λ place inside unchanged. changes place (inside_of place inside follows.levels) unchanged ∙ follows.stored place inside unchanged;
+  stored = λ place inside unchanged. changes place (inside_of place inside follows.geometry) unchanged ∙ follows.stored place inside unchanged;
   first = follows.first;
   none_counted = follows.none_counted;
 }
   where
-    inside_of : (place : Place) → IsPlace history.levels place → places.levels ≡ history.levels → IsPlace places.levels place
-    inside_of place inside same = subst (λ (n : ℕ). IsPlace n place) (sym same) inside
+    inside_of : (place : Place) → IsPlace history.geometry place → places.geometry ≡ history.geometry → IsPlace places.geometry place
+    inside_of place inside same = subst (λ (g : GeometryView). IsPlace g place) (sym same) inside
 
 -- where bytes differ, the place is one that the script may change
 changed_where : (b : Bool) (x y : List ℕ) → (b ≡ false → x ≡ y) → x ≢ y → b ≡ true
@@ -57,13 +55,13 @@ lie_is_kept lies before lie none_counted none =
 
 -- a read was answered by what is stored
 follows_read : (script : List ScriptLine) (history : BusHistory) (places : StoredPlacesView) (place : Place) (bytes : List ℕ) →
-    ChangedByScript script history places → IsPlace history.levels place → bytes ≡ bytes_at places place →
+    ChangedByScript script history places → IsPlace history.geometry place → bytes ≡ bytes_at places place →
     ChangedByScript script (after_read place bytes history) places
 follows_read script history places place bytes follows inside answer =
     elim (true_or_false place bytes history) [
-      | inl truly ↦ rw truly.1 (record { levels = follows.levels; fits = follows.fits; stored = follows.stored; first = follows.first; none_counted = follows.none_counted })
+      | inl truly ↦ rw truly.1 (record { geometry = follows.geometry; fits = follows.fits; stored = follows.stored; first = follows.first; none_counted = follows.none_counted })
       | inr falsely ↦ rw falsely.1 (record {
-        levels = follows.levels;
+        geometry = follows.geometry;
         fits = follows.fits;
         stored = follows.stored;
         first = first_of_both (λ (lie : Lie). script_may_change script lie.place ≡ true) (nat_eq history.lies 0) history.lie _ follows.first
@@ -85,21 +83,21 @@ written_there place other bytes written stored here elsewhere =
 
 -- bytes were written, and put where they were
 follows_write : (script : List ScriptLine) (history : BusHistory) (places : StoredPlacesView) (place : Place) (bytes : List ℕ) →
-    ChangedByScript script history places → IsPlace history.levels place → bytes_at (with_place place bytes places) place ≡ bytes →
+    ChangedByScript script history places → IsPlace history.geometry place → bytes_at (with_place place bytes places) place ≡ bytes →
     ChangedByScript script (after_write place bytes history) (with_place place bytes places)
 unfolding after_write
 follows_write script history places place bytes follows inside here = record {
-  levels = same_levels place bytes places ∙ follows.levels;
+  geometry = same_geometry place bytes places ∙ follows.geometry;
   fits = follows.fits;
   stored = λ other inside' unchanged. written_there place other bytes history.written (bytes_at (with_place place bytes places)) here
-      (λ (differs : place_eq other place ≡ false). put_changes place bytes places (at_levels place inside) other (at_levels other inside') differs
+      (λ (differs : place_eq other place ≡ false). put_changes place bytes places (at_geometry place inside) other (at_geometry other inside') differs
       ∙ follows.stored other inside' unchanged);
   first = follows.first;
   none_counted = follows.none_counted;
 }
   where
-    at_levels : (q : Place) → IsPlace history.levels q → IsPlace places.levels q
-    at_levels q is = subst (λ (n : ℕ). IsPlace n q) (sym follows.levels) is
+    at_geometry : (q : Place) → IsPlace history.geometry q → IsPlace places.geometry q
+    at_geometry q is = subst (λ (g : GeometryView). IsPlace g q) (sym follows.geometry) is
 
 -- the history is as it was
 follows_same : (script : List ScriptLine) (history history' : BusHistory) (places : StoredPlacesView) → history' ≡ history →
@@ -108,39 +106,37 @@ follows_same script history history' places same follows = rw same follows
 
 -- a call that reads
 pub read_follows : (script : List ScriptLine) (history history' : BusHistory) (places places' : StoredPlacesView) (place : Place) (answer : List ℕ) →
-    ChangedByScript script history places → IsPlace history.levels place →
-    places'.levels ≡ places.levels → ChangesOnly places places' (script_may_change script) →
+    ChangedByScript script history places → IsPlace history.geometry place →
+    places'.geometry ≡ places.geometry → ChangesOnly places places' (script_may_change script) →
     answer ≡ bytes_at places' place → history' ≡ after_read place answer history → ChangedByScript script history' places'
-read_follows script history history' places places' place answer follows inside levels changes stored is =
+read_follows script history history' places places' place answer follows inside geometry changes stored is =
     follows_same script (after_read place answer history) history' places' is
-    (follows_read script history places' place answer (follows_due script history places places' follows levels changes) inside stored)
+    (follows_read script history places' place answer (follows_due script history places places' follows geometry changes) inside stored)
+
+-- one that was refused, after the due actions
+pub refused_follows : (script : List ScriptLine) (history history' : BusHistory) (places places' : StoredPlacesView) → ChangedByScript script history places →
+    places'.geometry ≡ places.geometry → ChangesOnly places places' (script_may_change script) → history' ≡ history → ChangedByScript script history' places'
+refused_follows script history history' places places' follows geometry changes same =
+    follows_same script history history' places' same (follows_due script history places places' follows geometry changes)
 
 -- one that writes
 pub write_follows : (script : List ScriptLine) (history history' : BusHistory) (places places' places'' : StoredPlacesView) (place : Place) (bytes : List ℕ) →
-    ChangedByScript script history places → IsPlace history.levels place →
-    places'.levels ≡ places.levels → ChangesOnly places places' (script_may_change script) →
+    ChangedByScript script history places → IsPlace history.geometry place →
+    places'.geometry ≡ places.geometry → ChangesOnly places places' (script_may_change script) →
     places'' ≡ with_place place bytes places' → bytes_at places'' place ≡ bytes →
     history' ≡ after_write place bytes history → ChangedByScript script history' places''
-write_follows script history history' places places' places'' place bytes follows inside levels changes puts here is =
+write_follows script history history' places places' places'' place bytes follows inside geometry changes puts here is =
     rw puts (follows_same script (after_write place bytes history) history' (with_place place bytes places') is
-    (follows_write script history places' place bytes (follows_due script history places places' follows levels changes) inside
+    (follows_write script history places' place bytes (follows_due script history places places' follows geometry changes) inside
     (ap (λ (p : StoredPlacesView). bytes_at p place) (sym puts) ∙ here)))
 
--- each item of a list of one item is that
-one_item : {A : Type 0} (count at : ℕ) (item : A) → slice_index_or (replicate count item) at item ≡ item
-one_item count at item =
-    elim (cases_lt at count) [
-      | inl inside ↦ get_or-replicate count at item item inside
-      | inr outside ↦ get_or-eq_default (replicate count item) item (omega (arith, length-replicate count item))
-    ]
-
-new_bytes : (levels : ℕ) (place : Place) → bytes_at (new_places levels) place ≡ zeros_of place
-new_bytes levels (Line line) = ap (λ (x : LineBytes). x.bytes) (one_item (line_count levels) line empty_line)
-new_bytes levels (Node level index) =
-    ap (λ (x : NodeBytes). x.bytes) (one_item (node_end levels) (node_number levels level index) empty_node)
+new_bytes : (geometry : GeometryView) (place : Place) → bytes_at (new_places geometry) place ≡ zeros_of place
+new_bytes geometry (Line line) = ap (λ (x : LineBytes). x.bytes) (one_item (line_count geometry) line empty_line)
+new_bytes geometry (Node level index) =
+    ap (λ (x : NodeBytes). x.bytes) (one_item (node_end geometry) (node_number geometry level index) empty_node)
 
 -- before the first call
-pub new_follows : (script : List ScriptLine) (history : BusHistory) (levels : ℕ) (places : StoredPlacesView) → history ≡ new_history levels →
-    places ≡ new_places levels → FitScript levels script → ChangedByScript script history places
-new_follows script history levels places is none fits =
-    rw (is, none) (record { levels = refl; fits = fits; stored = λ place inside unchanged. new_bytes levels place; first = tt; none_counted = λ none. refl })
+pub new_follows : (script : List ScriptLine) (history : BusHistory) (geometry : GeometryView) (places : StoredPlacesView) → history ≡ new_history geometry →
+    places ≡ new_places geometry → FitScript geometry script → ChangedByScript script history places
+new_follows script history geometry places is none fits =
+    rw (is, none) (record { geometry = refl; fits = fits; stored = λ place inside unchanged. new_bytes geometry place; first = tt; none_counted = λ none. refl })

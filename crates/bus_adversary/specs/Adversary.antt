@@ -4,14 +4,16 @@ use Rattle.adversary_script.specs.declared.script.Action.TheVariants.{Flip, Put,
 use Rattle.adversary_script.specs.declared.script.ScriptLine.{ScriptLine}
 use Rattle.bus_adversary.specs.NextAccess.{is_due}
 use Rattle.bus_adversary.specs.PlaceBytes.{with_mask, with_bytes}
-use Rattle.bus_adversary.specs.StoredPlaces.{StoredPlacesView, bytes_at, new_places, with_place}
+use Rattle.bus_adversary.specs.StoredPlaces.{EndsInZeros, StoredPlacesView, bytes_at, new_places, with_place}
 use Rattle.bus_adversary.specs.declared.next_access.NextAccess.{NextAccess}
 use Rattle.bus_adversary.specs.declared.adversary.Register.{Register}
 use Rattle.bus_adversary.specs.declared.adversary.Register.TheVariants.{AllPlaces, Empty, Line as line_bytes, Node as node_bytes}
+use Rattle.sec_base.specs.Place.{zeros_of}
 use Rattle.sec_base.specs.declared.place.Place.{Place}
 use Rattle.sec_base.specs.declared.place.Place.TheVariants.{Line, Node}
 use Rattle.std.specs.List.{fold, list_any}
-use Rattle.std.specs.Prelude.{Bool, List, false, if◌then◌else◌, replicate, slice_index_or, slice_set, true, ℕ, ◌&&◌, ◌≡◌}
+use Rattle.std.specs.Prelude.{Bool, List, if◌then◌else◌, replicate, slice_index_or, slice_set, ℕ, ◌≡◌}
+use Rattle.sec_base.specs.Geometry.{GeometryView}
 
 -- the stored places, and what each register keeps
 pub record AdversaryView : Type 0 where
@@ -19,8 +21,8 @@ pub record AdversaryView : Type 0 where
   pub registers : List Register
 
 -- zeros at each place, and empty registers
-abbrev pub new_adversary : ℕ → AdversaryView
-new_adversary levels = record { places = new_places levels; registers = replicate 16 Empty }
+abbrev pub new_adversary : GeometryView → AdversaryView
+new_adversary geometry = record { places = new_places geometry; registers = replicate 16 Empty }
 
 -- bytes were put at a place
 abbrev pub after_put : Place → List ℕ → AdversaryView → AdversaryView
@@ -59,7 +61,7 @@ after_action (Flip place offset mask) adversary =
     after_put place (with_mask offset mask.items (bytes_at adversary.places place)) adversary
 after_action (Swap first second) adversary =
     after_put second (bytes_at adversary.places first) (after_put first (bytes_at adversary.places second) adversary)
-after_action (Put place bytes) adversary = after_put place bytes.items adversary
+after_action (Put place bytes) adversary = after_put place (with_bytes 0 bytes.items (zeros_of place)) adversary
 after_action (Save register place) adversary =
     with_register register (register_of place (bytes_at adversary.places place)) adversary
 after_action (Restore register place) adversary =
@@ -75,28 +77,13 @@ after_line next adversary line = if is_due next line.trigger then after_action l
 abbrev pub after_due : NextAccess → List ScriptLine → AdversaryView → AdversaryView
 after_due next script adversary = fold (after_line next) adversary script
 
--- an action copies all places, for which the emulator needs memory
-abbrev pub copies_all : Action → Bool
-copies_all (Set place offset bytes) = false
-copies_all (Flip place offset mask) = false
-copies_all (Swap first second) = false
-copies_all (Put place bytes) = false
-copies_all (Save register place) = false
-copies_all (Restore register place) = false
-copies_all (SaveAll register) = true
-copies_all (RestoreAll register) = true
+-- the action of some line is due
+abbrev pub any_due : NextAccess → List ScriptLine → Bool
+any_due next script = list_any (λ line. is_due next line.trigger) script
 
--- such an action is due
-abbrev pub is_copy_due : NextAccess → ScriptLine → Bool
-is_copy_due next line = is_due next line.trigger && copies_all line.action
-
--- and so is one of a script
-abbrev pub any_copy_due : NextAccess → List ScriptLine → Bool
-any_copy_due next script = list_any (is_copy_due next) script
-
--- a register keeps places of so many levels, if it keeps all
-abbrev pub HasLevels : ℕ → Register → Type 0
-HasLevels levels (AllPlaces places) = places.levels ≡ levels
-HasLevels levels (line_bytes bytes) = Unit {0}
-HasLevels levels (node_bytes bytes) = Unit {0}
-HasLevels levels Empty = Unit {0}
+-- what a register keeps fits the tree: all its places, or the bytes of one
+abbrev pub FitsRegister : GeometryView → Register → Type 0
+FitsRegister geometry (AllPlaces places) = places.geometry ≡ geometry
+FitsRegister geometry (line_bytes bytes) = EndsInZeros geometry bytes
+FitsRegister geometry (node_bytes bytes) = Unit {0}
+FitsRegister geometry Empty = Unit {0}

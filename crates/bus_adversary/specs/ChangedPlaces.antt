@@ -26,4 +26,4 @@ script_may_change script place = list_any (λ line. may_change line.action place
 -- what is stored changed at such places alone
 abbrev pub ChangesOnly : StoredPlacesView → StoredPlacesView → (Place → Bool) → Type 0
 ChangesOnly old new changes =
-    (place : Place) → IsPlace old.levels place → IsFalse (changes place) → bytes_at new place ≡ bytes_at old place
+    (place : Place) → IsPlace old.geometry place → IsFalse (changes place) → bytes_at new place ≡ bytes_at old place

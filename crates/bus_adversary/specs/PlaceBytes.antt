@@ -1,5 +1,5 @@
 -- The bytes of one place, and how they change from an offset on.
-use Rattle.std.specs.Prelude.{List, [], bit_xor, drop, length, take, ℕ, ◌+◌, ◌++◌, ◌∷◌}
+use Rattle.std.specs.Prelude.{List, [], bit_xor, drop, length, take, ℕ, ◌++◌, ◌∷◌}
 
 -- bytes, with others put in from the offset on
 abbrev pub with_bytes : ℕ → List ℕ → List ℕ → List ℕ

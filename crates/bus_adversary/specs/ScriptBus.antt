@@ -15,6 +15,7 @@ use Rattle.sec_base.specs.Count.{more_by}
 use Rattle.sec_base.specs.Place.{IsPlace, at_place}
 use Rattle.sec_base.specs.declared.place.Place.{Place}
 use Rattle.std.specs.Prelude.{IfSome, IsFalse, IsTrue, List, None, ℕ, ◌≡◌}
+use Rattle.sec_base.specs.Geometry.{GeometryView}
 
 -- what was written and how often it was read, the false answers so far, what the adversary has, how often each place was
 -- written, and the script
@@ -47,9 +48,9 @@ state_of bus =
     }
 
 -- zeros at each place, empty registers, and no access yet
-abbrev pub new_state : ℕ → ScriptState
-new_state levels =
-    record { adversary = new_adversary levels; accesses = 0; reads = λ place. 0; writes = new_counts levels }
+abbrev pub new_state : GeometryView → ScriptState
+new_state geometry =
+    record { adversary = new_adversary geometry; accesses = 0; reads = λ place. 0; writes = new_counts geometry }
 
 -- what is stored at a place
 abbrev pub stored_at : ScriptState → Place → List ℕ
@@ -86,14 +87,14 @@ after_next_write script place bytes state =
 -- what is stored differs from what was written only where the script may change it
 abbrev pub StoredAsWritten : List ScriptLine → BusHistory → (Place → List ℕ) → Type 0
 StoredAsWritten script history stored =
-    (place : Place) → IsPlace history.levels place → IsFalse (script_may_change script place) →
+    (place : Place) → IsPlace history.geometry place → IsFalse (script_may_change script place) →
     stored place ≡ history.written place
 
 -- a script that fits the places: it alone made them differ from what was written, and the first false answer too was
 -- at a place that it may change
 pub record ChangedByScript (script : List ScriptLine) (history : BusHistory) (places : StoredPlacesView) : Type 0 where
-  pub levels : places.levels ≡ history.levels
-  pub fits : FitScript history.levels script
+  pub geometry : places.geometry ≡ history.geometry
+  pub fits : FitScript history.geometry script
   pub stored : StoredAsWritten script history (bytes_at places)
   pub first : IfSome history.lie (λ lie. IsTrue (script_may_change script lie.place))
   pub none_counted : history.lie ≡ None → history.lies ≡ 0
@@ -101,8 +102,8 @@ pub record ChangedByScript (script : List ScriptLine) (history : BusHistory) (pl
 -- what holds of such a bus before each call and after it, answered or refused
 abbrev pub IsScriptBus : ScriptBusView → Type 0
 IsScriptBus bus =
-    ChangedByScript bus.script (script_history bus) bus.adversary.places × (bus.writes.levels ≡ bus.kept.levels)
+    ChangedByScript bus.script (script_history bus) bus.adversary.places × (bus.writes.geometry ≡ bus.kept.geometry)
 
--- calls keep the script, and the levels
+-- calls keep the script, and the geometry
 abbrev pub KeepsScript : ScriptBusView → ScriptBusView → Type 0
-KeepsScript old new = (new.script ≡ old.script) × ((script_history new).levels ≡ (script_history old).levels)
+KeepsScript old new = (new.script ≡ old.script) × ((script_history new).geometry ≡ (script_history old).geometry)

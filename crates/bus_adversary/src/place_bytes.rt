@@ -1,7 +1,7 @@
 // The bytes of one place, and how they change from an offset on.
 ghost use Rattle.bus_adversary.specs.PlaceBytes.{with_mask, with_bytes};
 ghost use Rattle.sec_base.specs.Evidence.{sealed_bytes};
-ghost use Rattle.std.specs.Prelude.{length, ◌+◌, ◌≡◌, ◌≤◌};
+ghost use Rattle.std.specs.Prelude.{drop, length, ◌+◌, ◌≡◌, ◌≤◌};
 
 use sec_base::Sealed;
 
@@ -35,7 +35,8 @@ pub(crate) fn bytes_of(sealed: &Sealed) -> [u8; 80]
 
 // The line and the tag of 80 bytes.
 pub(crate) fn sealed_of(bytes: &[u8; 80]) -> Sealed
-    ensures { sealed_bytes result ≡ bytes.now }
+    ensures bytes { sealed_bytes result ≡ bytes.now }
+    ensures tag { result.tag ≡ drop 64 bytes.now }
 {
     let mut cipher = [0; 64];
     let mut tag = [0; 16];

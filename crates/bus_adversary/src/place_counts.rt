@@ -24,7 +24,7 @@ impl Model for PlaceCounts {
     ghost Value = { PlaceCountsView };
 
     ghost view = { λ counts. record {
-      levels = counts.geometry;
+      geometry = counts.geometry;
       lines = counts.lines.items;
       nodes = counts.nodes.items;
     } };
@@ -46,21 +46,21 @@ impl PlaceCounts {
     }
 
     pub(crate) fn of_line(&self, line: u32) -> u64
-        requires { IsPlace self.now.levels (Line line) }
+        requires { IsPlace self.now.geometry (Line line) }
         ensures { result ≡ count_at self.now (Line line) }
     {
         self.lines[line as usize]
     }
 
     pub(crate) fn of_node(&self, level: u8, index: u32) -> u64
-        requires { IsPlace self.now.levels (Node level index) }
+        requires { IsPlace self.now.geometry (Node level index) }
         ensures { result ≡ count_at self.now (Node level index) }
     {
         self.nodes[self.geometry.node_number(level, index) as usize]
     }
 
     pub(crate) fn add_line(&mut self, line: u32)
-        requires { IsPlace self.old.levels (Line line) }
+        requires { IsPlace self.old.geometry (Line line) }
         ensures { self.new ≡ with_one_more (Line line) self.old }
     {
         let at = line as usize;
@@ -68,7 +68,7 @@ impl PlaceCounts {
     }
 
     pub(crate) fn add_node(&mut self, level: u8, index: u32)
-        requires { IsPlace self.old.levels (Node level index) }
+        requires { IsPlace self.old.geometry (Node level index) }
         ensures { self.new ≡ with_one_more (Node level index) self.old }
     {
         let at = self.geometry.node_number(level, index) as usize;

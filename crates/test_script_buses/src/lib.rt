@@ -2,4 +2,6 @@
 #![tactic(auto)]
 
 #[cfg(test)]
+mod last_places;
+#[cfg(test)]
 mod tests;

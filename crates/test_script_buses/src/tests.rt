@@ -1,22 +1,23 @@
 // What is read is worked out by hand from the language of scripts (docs/FORMATS.md). The memory has lines 0 to 255, and
 // nodes 0 0 to 0 3 and 1 0.
 ghost use Rattle.bus_adversary.specs.ScriptBus.{script_history};
+ghost use Rattle.sec_base.specs.Geometry.{one, two};
 ghost use Rattle.std.specs.Prelude.{IfOk, ◌<◌, ◌≡◌};
 
 use adversary_script::parse;
 use bus_adversary::ScriptBus;
 use bus_model::Bus;
-use sec_base::{Geometry, NoMemory, Sealed};
+use sec_base::{Geometry, Layout, NoMemory, Sealed};
 use std::alloc::Global;
 use std::process::Abort;
 use std::test::Fail;
 
-const ZEROS: Sealed = Sealed {
+pub(crate) const ZEROS: Sealed = Sealed {
     cipher: [0; 64],
     tag: [0; 16],
 };
 
-const FIVE: Sealed = Sealed {
+pub(crate) const FIVE: Sealed = Sealed {
     cipher: [0x05; 64],
     tag: [0x15; 16],
 };
@@ -26,7 +27,7 @@ const SIX: Sealed = Sealed {
     tag: [0x16; 16],
 };
 
-const TWO: [u8; 64] = [0x22; 64];
+pub(crate) const TWO: [u8; 64] = [0x22; 64];
 
 const THREE: [u8; 64] = [0x33; 64];
 
@@ -50,9 +51,20 @@ const AS_WRITTEN: FourReads = FourReads {
 
 // A bus that follows a script.
 fn bus_of(rt: &impl Abort, alloc: Global, text: &str) -> Result<ScriptBus, Fail>
-    ensures { IfOk result (λ bus. (script_history bus).levels ≡ 1) }
+    ensures { IfOk result (λ bus. (script_history bus).geometry ≡ one 1) }
 {
-    let geometry = Geometry::new(1).ok_or("no geometry")?;
+    bus_with(rt, alloc, Geometry::new(1).ok_or("no geometry")?, text)
+}
+
+// One of this geometry.
+pub(crate) fn bus_with(
+    rt: &impl Abort,
+    alloc: Global,
+    geometry: Geometry,
+    text: &str,
+) -> Result<ScriptBus, Fail>
+    ensures { IfOk result (λ bus. (script_history bus).geometry ≡ geometry) }
+{
     assert!(rt; text.len() < 1 << 32);
     let script = parse(alloc, text.as_bytes(), geometry)?;
     Ok(ScriptBus::new(alloc, script, geometry)?)
@@ -60,8 +72,8 @@ fn bus_of(rt: &impl Abort, alloc: Global, text: &str) -> Result<ScriptBus, Fail>
 
 // The lines are written by the accesses 1 and 2.
 fn write_lines(bus: &mut ScriptBus) -> Result<(), NoMemory>
-    requires { (script_history bus.old).levels ≡ 1 }
-    ensures { (script_history bus.new).levels ≡ 1 }
+    requires { (script_history bus.old).geometry ≡ one 1 }
+    ensures { (script_history bus.new).geometry ≡ one 1 }
 {
     bus.write_data(5, &FIVE)?;
     bus.write_data(6, &SIX)
@@ -69,8 +81,8 @@ fn write_lines(bus: &mut ScriptBus) -> Result<(), NoMemory>
 
 // The nodes are written by the accesses 3 and 4.
 fn write_nodes(bus: &mut ScriptBus) -> Result<(), NoMemory>
-    requires { (script_history bus.old).levels ≡ 1 }
-    ensures { (script_history bus.new).levels ≡ 1 }
+    requires { (script_history bus.old).geometry ≡ one 1 }
+    ensures { (script_history bus.new).geometry ≡ one 1 }
 {
     bus.write_node(0, 2, &TWO)?;
     bus.write_node(0, 3, &THREE)
@@ -78,8 +90,8 @@ fn write_nodes(bus: &mut ScriptBus) -> Result<(), NoMemory>
 
 // The lines are read by the accesses 5 and 6.
 fn read_lines(bus: &mut ScriptBus) -> Result<(Sealed, Sealed), NoMemory>
-    requires { (script_history bus.old).levels ≡ 1 }
-    ensures { (script_history bus.new).levels ≡ 1 }
+    requires { (script_history bus.old).geometry ≡ one 1 }
+    ensures { (script_history bus.new).geometry ≡ one 1 }
 {
     let five = bus.read_data(5)?;
     let six = bus.read_data(6)?;
@@ -88,8 +100,8 @@ fn read_lines(bus: &mut ScriptBus) -> Result<(Sealed, Sealed), NoMemory>
 
 // The nodes are read by the accesses 7 and 8.
 fn read_nodes(bus: &mut ScriptBus) -> Result<([u8; 64], [u8; 64]), NoMemory>
-    requires { (script_history bus.old).levels ≡ 1 }
-    ensures { (script_history bus.new).levels ≡ 1 }
+    requires { (script_history bus.old).geometry ≡ one 1 }
+    ensures { (script_history bus.new).geometry ≡ one 1 }
 {
     let two = bus.read_node(0, 2)?;
     let three = bus.read_node(0, 3)?;
@@ -98,7 +110,7 @@ fn read_nodes(bus: &mut ScriptBus) -> Result<([u8; 64], [u8; 64]), NoMemory>
 
 // The four places are written, and then read.
 fn four_reads(bus: &mut ScriptBus) -> Result<FourReads, NoMemory>
-    requires { (script_history bus.old).levels ≡ 1 }
+    requires { (script_history bus.old).geometry ≡ one 1 }
 {
     write_lines(bus)?;
     write_nodes(bus)?;
@@ -207,6 +219,20 @@ fn places_are_swapped(rt: HostRuntime) -> Result<(), Fail> {
 const DIGITS: &str =
     "000102030405060708090a0b0c0d0e0f101112131415161718191a1b1c1d1e1f000102030405060708090a0b0c0d0e0f101112131415161718191a1b1c1d1e1f";
 
+// The tag of the digits e0e1e2e3e4e5e6e7e8e9eaebecedeeef.
+pub(crate) const TAG: [u8; 16] = [
+    0xe0, 0xe1, 0xe2, 0xe3, 0xe4, 0xe5, 0xe6, 0xe7, 0xe8, 0xe9, 0xea, 0xeb, 0xec, 0xed, 0xee, 0xef,
+];
+
+// What the digits stand for.
+pub(crate) fn digit_bytes() -> [u8; 64] {
+    let mut bytes = [0; 64];
+    for (at, byte) in bytes.iter_mut().enumerate() {
+        *byte = at as u8 % 32;
+    }
+    bytes
+}
+
 // The four places are read so once the digits and these were put at a place.
 fn expect_put(
     rt: &impl Abort,
@@ -225,19 +251,16 @@ fn expect_put(
 
 #[test]
 fn whole_places_are_put(rt: HostRuntime) -> Result<(), Fail> {
-    let mut bytes = [0; 64];
-    for (at, byte) in bytes.iter_mut().enumerate() {
-        *byte = at as u8 % 32;
-    }
+    let bytes = digit_bytes();
     let mut node = AS_WRITTEN;
     node.three = bytes;
     node.lies = 1;
     expect_put(&rt, rt.alloc(), "node 0 3 ", "", node)?;
     let mut line = AS_WRITTEN;
-    line.five.cipher = bytes;
-    for (at, byte) in line.five.tag.iter_mut().enumerate() {
-        *byte = 0xe0 + at as u8 % 16;
-    }
+    line.five = Sealed {
+        cipher: bytes,
+        tag: TAG,
+    };
     line.lies = 1;
     expect_put(
         &rt,
@@ -370,9 +393,9 @@ fn an_answer_as_written_is_no_lie(rt: HostRuntime) -> Result<(), Fail> {
 
 // A line is written, and the first byte of line 7 is read.
 fn write_line(bus: &mut ScriptBus, line: u32) -> Result<u8, NoMemory>
-    requires levels { (script_history bus.old).levels ≡ 1 }
+    requires geometry { (script_history bus.old).geometry ≡ one 1 }
     requires inside { line < 256 }
-    ensures { (script_history bus.new).levels ≡ 1 }
+    ensures { (script_history bus.new).geometry ≡ one 1 }
 {
     bus.write_data(line, &FIVE)?;
     Ok(bus.read_data(7)?.cipher[0])
@@ -380,9 +403,9 @@ fn write_line(bus: &mut ScriptBus, line: u32) -> Result<u8, NoMemory>
 
 // A line is read, and the first byte of line 7.
 fn read_line(bus: &mut ScriptBus, line: u32) -> Result<u8, NoMemory>
-    requires levels { (script_history bus.old).levels ≡ 1 }
+    requires geometry { (script_history bus.old).geometry ≡ one 1 }
     requires inside { line < 256 }
-    ensures { (script_history bus.new).levels ≡ 1 }
+    ensures { (script_history bus.new).geometry ≡ one 1 }
 {
     bus.read_data(line)?;
     Ok(bus.read_data(7)?.cipher[0])
@@ -390,8 +413,8 @@ fn read_line(bus: &mut ScriptBus, line: u32) -> Result<u8, NoMemory>
 
 // Three of the reads of line 7, behind the first accesses.
 fn first_lines(bus: &mut ScriptBus) -> Result<[u8; 3], NoMemory>
-    requires { (script_history bus.old).levels ≡ 1 }
-    ensures { (script_history bus.new).levels ≡ 1 }
+    requires { (script_history bus.old).geometry ≡ one 1 }
+    ensures { (script_history bus.new).geometry ≡ one 1 }
 {
     let first = write_line(bus, 5)?;
     let second = read_line(bus, 5)?;
@@ -401,8 +424,8 @@ fn first_lines(bus: &mut ScriptBus) -> Result<[u8; 3], NoMemory>
 
 // The other three.
 fn last_lines(bus: &mut ScriptBus) -> Result<[u8; 3], NoMemory>
-    requires { (script_history bus.old).levels ≡ 1 }
-    ensures { (script_history bus.new).levels ≡ 1 }
+    requires { (script_history bus.old).geometry ≡ one 1 }
+    ensures { (script_history bus.new).geometry ≡ one 1 }
 {
     let first = write_line(bus, 6)?;
     let second = read_line(bus, 5)?;
@@ -420,9 +443,9 @@ fn six_lines(rt: &impl Abort, alloc: Global, text: &str) -> Result<([u8; 6], u64
 
 // A node of level 0 is written, and the first byte of node 0 3 is read.
 fn write_node(bus: &mut ScriptBus, index: u32) -> Result<u8, NoMemory>
-    requires levels { (script_history bus.old).levels ≡ 1 }
+    requires geometry { (script_history bus.old).geometry ≡ one 1 }
     requires inside { index < 4 }
-    ensures { (script_history bus.new).levels ≡ 1 }
+    ensures { (script_history bus.new).geometry ≡ one 1 }
 {
     bus.write_node(0, index, &TWO)?;
     Ok(bus.read_node(0, 3)?[0])
@@ -430,9 +453,9 @@ fn write_node(bus: &mut ScriptBus, index: u32) -> Result<u8, NoMemory>
 
 // A node of level 0 is read, and the first byte of node 0 3.
 fn read_node(bus: &mut ScriptBus, index: u32) -> Result<u8, NoMemory>
-    requires levels { (script_history bus.old).levels ≡ 1 }
+    requires geometry { (script_history bus.old).geometry ≡ one 1 }
     requires inside { index < 4 }
-    ensures { (script_history bus.new).levels ≡ 1 }
+    ensures { (script_history bus.new).geometry ≡ one 1 }
 {
     bus.read_node(0, index)?;
     Ok(bus.read_node(0, 3)?[0])
@@ -440,8 +463,8 @@ fn read_node(bus: &mut ScriptBus, index: u32) -> Result<u8, NoMemory>
 
 // Three of the reads of node 0 3, behind the first accesses.
 fn first_nodes(bus: &mut ScriptBus) -> Result<[u8; 3], NoMemory>
-    requires { (script_history bus.old).levels ≡ 1 }
-    ensures { (script_history bus.new).levels ≡ 1 }
+    requires { (script_history bus.old).geometry ≡ one 1 }
+    ensures { (script_history bus.new).geometry ≡ one 1 }
 {
     let first = write_node(bus, 1)?;
     let second = read_node(bus, 1)?;
@@ -451,8 +474,8 @@ fn first_nodes(bus: &mut ScriptBus) -> Result<[u8; 3], NoMemory>
 
 // The other three.
 fn last_nodes(bus: &mut ScriptBus) -> Result<[u8; 3], NoMemory>
-    requires { (script_history bus.old).levels ≡ 1 }
-    ensures { (script_history bus.new).levels ≡ 1 }
+    requires { (script_history bus.old).geometry ≡ one 1 }
+    ensures { (script_history bus.new).geometry ≡ one 1 }
 {
     let first = write_node(bus, 2)?;
     let second = read_node(bus, 1)?;
@@ -561,5 +584,140 @@ fn no_count_is_put_back(rt: HostRuntime) -> Result<(), Fail> {
     let text = "access 1: saveall 0\nread data 5 1: flip data 7 0 01\naccess 8: restoreall 0";
     let reads = six_lines(&rt, rt.alloc(), text)?;
     assert_eq!(rt; reads, ([0, 1, 1, 0, 0, 0], 4));
+    Ok(())
+}
+
+// A line whose tag has eight bytes.
+const EIGHT: Sealed = Sealed {
+    cipher: [0x08; 64],
+    tag: [
+        0x18, 0x18, 0x18, 0x18, 0x18, 0x18, 0x18, 0x18, 0, 0, 0, 0, 0, 0, 0, 0,
+    ],
+};
+
+// What was read at lines 0 and 511 of a memory of layout Two with one level, which were written by the accesses 1 and 2
+// and are read by 3 and 4, and how many of both answers were false.
+fn short_tags(bus: &mut ScriptBus) -> Result<(Sealed, Sealed, u64), NoMemory>
+    requires { (script_history bus.old).geometry ≡ two 1 }
+{
+    bus.write_data(0, &EIGHT)?;
+    bus.write_data(511, &EIGHT)?;
+    let first = bus.read_data(0)?;
+    let last = bus.read_data(511)?;
+    Ok((first, last, bus.lies()))
+}
+
+fn expect_short(
+    rt: &impl Abort,
+    alloc: Global,
+    text: &str,
+    expected: (Sealed, Sealed, u64),
+) -> Result<(), Fail> {
+    let geometry = Geometry::with(Layout::Two, 1).ok_or("no geometry")?;
+    let mut bus = bus_with(rt, alloc, geometry, text)?;
+    let read = short_tags(&mut bus)?;
+    assert_eq!(rt; read, expected, "{text}");
+    Ok(())
+}
+
+#[test]
+fn tags_of_layout_two_end_in_zeros(rt: HostRuntime) -> Result<(), Fail> {
+    let mut flipped = EIGHT;
+    flipped.tag[7] = 0x19;
+    let mut set = EIGHT;
+    set.cipher[63] = 0xab;
+    set.tag[0] = 0xcd;
+    let cases = [
+        ("access 3: flip data 511 71 01", (EIGHT, flipped, 1)),
+        ("access 3: set data 511 63 abcd", (EIGHT, set, 1)),
+        (
+            "access 3: flip data 511 71 01\naccess 3: swap data 0 data 511",
+            (flipped, EIGHT, 1),
+        ),
+        (
+            "access 3: flip data 0 71 01\naccess 3: save 1 data 0\naccess 4: restore 1 data 511",
+            (flipped, flipped, 2),
+        ),
+        (
+            "access 2: save 1 data 511\naccess 3: restore 1 data 511",
+            (EIGHT, ZEROS, 1),
+        ),
+        (
+            "access 2: saveall 2\naccess 3: restoreall 2",
+            (EIGHT, ZEROS, 1),
+        ),
+        (
+            "access 3: flip data 511 71 01\naccess 3: saveall 2\naccess 3: flip data 511 71 01\naccess 4: restoreall 2",
+            (EIGHT, flipped, 1),
+        ),
+    ];
+    for (text, expected) in cases {
+        expect_short(&rt, rt.alloc(), text, expected)?;
+    }
+    Ok(())
+}
+
+#[test]
+fn a_put_of_layout_two_has_72_bytes(rt: HostRuntime) -> Result<(), Fail> {
+    let mut text = String::new(rt.alloc());
+    text.push_str("access 3: put data 511 ")?;
+    text.push_str(DIGITS)?;
+    text.push_str("e0e1e2e3e4e5e6e7")?;
+    let cipher = digit_bytes();
+    let tag = [
+        0xe0, 0xe1, 0xe2, 0xe3, 0xe4, 0xe5, 0xe6, 0xe7, 0, 0, 0, 0, 0, 0, 0, 0,
+    ];
+    let line = Sealed { cipher, tag };
+    expect_short(&rt, rt.alloc(), text.as_str(), (EIGHT, line, 1))
+}
+
+// A write that is asked for once more where it is refused.
+fn write_surely(bus: &mut ScriptBus, line: u32) -> Result<(), NoMemory>
+    requires geometry { (script_history bus.old).geometry ≡ one 1 }
+    requires inside { line < 256 }
+    ensures { (script_history bus.new).geometry ≡ one 1 }
+{
+    match bus.write_data(line, &FIVE) {
+        Ok(()) => Ok(()),
+        Err(_) => bus.write_data(line, &FIVE),
+    }
+}
+
+// Lines 5 to 8 are written, and line 5 is read by the access 5.
+fn four_writes(bus: &mut ScriptBus) -> Result<(u8, u64), NoMemory>
+    requires { (script_history bus.old).geometry ≡ one 1 }
+{
+    write_surely(bus, 5)?;
+    write_surely(bus, 6)?;
+    write_surely(bus, 7)?;
+    write_surely(bus, 8)?;
+    let read = bus.read_data(5)?;
+    Ok((read.cipher[0], bus.lies()))
+}
+
+fn expect_four_writes(
+    rt: &impl Abort,
+    alloc: Global,
+    text: &str,
+    expected: (u8, u64),
+) -> Result<(), Fail> {
+    let mut bus = bus_of(rt, alloc, text)?;
+    let read = four_writes(&mut bus)?;
+    assert_eq!(rt; read, expected, "{text}");
+    Ok(())
+}
+
+// Where a growth is refused (`rt try --test --fail-alloc N`), the access that needed it isn't counted.
+#[test]
+fn a_refused_access_is_not_counted(rt: HostRuntime) -> Result<(), Fail> {
+    let rows = [
+        ("access 5: set data 5 0 aa", (0xaa, 1)),
+        ("access 6: set data 5 0 aa", (0x05, 0)),
+        ("write data 8 1: set data 5 0 aa", (0xaa, 1)),
+        ("write data 8 2: set data 5 0 aa", (0x05, 0)),
+    ];
+    for (text, expected) in rows {
+        expect_four_writes(&rt, rt.alloc(), text, expected)?;
+    }
     Ok(())
 }

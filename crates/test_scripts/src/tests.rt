@@ -1,16 +1,32 @@
 // The lines and the faults are worked out by hand from the language of scripts (docs/FORMATS.md). The memory has 16,384
 // data lines, and nodes of the levels 0 to 4: 256, 64, 16, 4 and 1.
 
-use adversary_script::{Action, ScriptError, ScriptFault, ScriptLine, Trigger, parse};
+use adversary_script::{Action, PlaceBytes, ScriptError, ScriptFault, ScriptLine, Trigger, parse};
 use arrayvec::ArrayVec;
-use sec_base::{Geometry, Place};
+use sec_base::{Geometry, Layout, Place};
 use std::alloc::Global;
 use std::process::Abort;
 use std::test::Fail;
 
 // A text says just these lines.
 fn expect(rt: &impl Abort, alloc: Global, text: &str, lines: &[ScriptLine]) -> Result<(), Fail> {
-    let geometry = Geometry::new(4).ok_or("no geometry")?;
+    expect_with(
+        rt,
+        alloc,
+        Geometry::new(4).ok_or("no geometry")?,
+        text,
+        lines,
+    )
+}
+
+// It does for a memory of this geometry.
+fn expect_with(
+    rt: &impl Abort,
+    alloc: Global,
+    geometry: Geometry,
+    text: &str,
+    lines: &[ScriptLine],
+) -> Result<(), Fail> {
     assert!(rt; text.len() < 1 << 32);
     let script = parse(alloc, text.as_bytes(), geometry)?;
     assert_eq!(rt; script.len(), lines.len() as u64);
@@ -33,6 +49,11 @@ fn expect_line(
     expect(rt, alloc, text, &[ScriptLine { trigger, action }])
 }
 
+// The bytes of an action.
+fn bytes_of(bytes: &[u8]) -> Result<PlaceBytes, Fail> {
+    Ok(ArrayVec::try_from(bytes).ok().ok_or("full")?)
+}
+
 // A text is refused.
 fn expect_fault(
     rt: &impl Abort,
@@ -41,7 +62,25 @@ fn expect_fault(
     line: u32,
     code: ScriptFault,
 ) -> Result<(), Fail> {
-    let geometry = Geometry::new(4).ok_or("no geometry")?;
+    expect_fault_with(
+        rt,
+        alloc,
+        Geometry::new(4).ok_or("no geometry")?,
+        text,
+        line,
+        code,
+    )
+}
+
+// It is for a memory of this geometry.
+fn expect_fault_with(
+    rt: &impl Abort,
+    alloc: Global,
+    geometry: Geometry,
+    text: &[u8],
+    line: u32,
+    code: ScriptFault,
+) -> Result<(), Fail> {
     assert!(rt; text.len() < 1 << 32);
     match parse(alloc, text, geometry) {
         Ok(_) => assert!(rt; false, "no fault, where line {line} has {code}"),
@@ -57,8 +96,21 @@ fn expect_faults(
     lines: &[&str],
     code: ScriptFault,
 ) -> Result<(), Fail> {
-    for line in lines {
-        expect_fault(rt, alloc, line.as_bytes(), 1, code)?;
+    let geometry = Geometry::new(4).ok_or("no geometry")?;
+    expect_faults_with(rt, alloc, geometry, lines, 1, code)
+}
+
+// Each of these texts has this fault at that line, for a memory of this geometry.
+fn expect_faults_with(
+    rt: &impl Abort,
+    alloc: Global,
+    geometry: Geometry,
+    texts: &[&str],
+    line: u32,
+    code: ScriptFault,
+) -> Result<(), Fail> {
+    for text in texts {
+        expect_fault_with(rt, alloc, geometry, text.as_bytes(), line, code)?;
     }
     Ok(())
 }
@@ -105,58 +157,39 @@ const DIGITS: &str =
     "000102030405060708090a0b0c0d0e0f101112131415161718191a1b1c1d1e1f202122232425262728292a2b2c2d2e2f303132333435363738393a3b3c3d3e3f";
 
 #[test]
-fn actions(rt: HostRuntime) -> Result<(), Fail> {
-    let place = Place::Line(5);
-    let node = Place::Node { level: 1, index: 2 };
-    let trigger = Trigger::Access(9);
+fn bytes_are_set_and_flipped(rt: HostRuntime) -> Result<(), Fail> {
     let set = Action::Set {
-        place,
+        place: Place::Line(5),
         offset: 78,
-        bytes: ArrayVec::try_from([0x00, 0xff].as_slice())
-            .ok()
-            .ok_or("full")?,
+        bytes: bytes_of(&[0x00, 0xff])?,
     };
-    expect_line(
-        &rt,
-        rt.alloc(),
-        "access 9: set data 5 78 00ff",
-        trigger,
-        set,
-    )?;
+    let text = "access 9: set data 5 78 00ff";
+    expect_line(&rt, rt.alloc(), text, Trigger::Access(9), set)?;
     let flip = Action::Flip {
-        place: node,
+        place: Place::Node { level: 1, index: 2 },
         offset: 63,
-        mask: ArrayVec::try_from([0x80].as_slice()).ok().ok_or("full")?,
+        mask: bytes_of(&[0x80])?,
     };
-    expect_line(
-        &rt,
-        rt.alloc(),
-        "access 9: flip node 1 2 63 80",
-        trigger,
-        flip,
-    )?;
-    let lines = Action::Swap {
-        first: place,
-        second: Place::Line(6),
-    };
-    expect_line(
-        &rt,
-        rt.alloc(),
-        "access 9: swap data 5 data 6",
-        trigger,
-        lines,
-    )?;
-    let nodes = Action::Swap {
-        first: node,
-        second: Place::Node { level: 0, index: 0 },
-    };
-    expect_line(
-        &rt,
-        rt.alloc(),
-        "access 9: swap node 1 2 node 0 0",
-        trigger,
-        nodes,
-    )
+    let text = "access 9: flip node 1 2 63 80";
+    expect_line(&rt, rt.alloc(), text, Trigger::Access(9), flip)
+}
+
+#[test]
+fn places_are_swapped(rt: HostRuntime) -> Result<(), Fail> {
+    let lines = (Place::Line(5), Place::Line(6));
+    let nodes = (
+        Place::Node { level: 1, index: 2 },
+        Place::Node { level: 0, index: 0 },
+    );
+    let cases = [
+        ("access 9: swap data 5 data 6", lines),
+        ("access 9: swap node 1 2 node 0 0", nodes),
+    ];
+    for (text, (first, second)) in cases {
+        let action = Action::Swap { first, second };
+        expect_line(&rt, rt.alloc(), text, Trigger::Access(9), action)?;
+    }
+    Ok(())
 }
 
 #[test]
@@ -197,9 +230,7 @@ fn whole_places(rt: HostRuntime) -> Result<(), Fail> {
     text.push_str(DIGITS)?;
     let node = Action::Put {
         place: Place::Node { level: 1, index: 2 },
-        bytes: ArrayVec::try_from(bytes.get(..64).ok_or("short")?)
-            .ok()
-            .ok_or("full")?,
+        bytes: bytes_of(bytes.get(..64).ok_or("short")?)?,
     };
     expect_line(&rt, rt.alloc(), text.as_str(), Trigger::Access(9), node)?;
     let mut text = String::new(rt.alloc());
@@ -218,9 +249,7 @@ fn digits_of_bytes_are_of_either_case(rt: HostRuntime) -> Result<(), Fail> {
     let action = Action::Set {
         place: Place::Line(5),
         offset: 0,
-        bytes: ArrayVec::try_from([0xab, 0xcd, 0xef].as_slice())
-            .ok()
-            .ok_or("full")?,
+        bytes: bytes_of(&[0xab, 0xcd, 0xef])?,
     };
     let text = "access 1: set data 5 0 aBCdEf";
     expect_line(&rt, rt.alloc(), text, Trigger::Access(1), action)
@@ -466,6 +495,164 @@ fn numbers_and_names_of_faults(rt: HostRuntime) -> Result<(), Fail> {
         assert_eq!(rt; code.name(), name);
         let error = ScriptError::Fault { line: 7, code };
         assert_eq!(rt; error.to_string(rt.alloc())?.as_str(), shown);
+    }
+    Ok(())
+}
+
+const LAST_LINE_OF_8_LEVELS: Place = Place::Line(4_194_303);
+
+const LAST_NODE_OF_8_LEVELS: Place = Place::Node {
+    level: 0,
+    index: 65_535,
+};
+
+// A text says one line for a memory with 8 levels.
+fn expect_at_8_levels(
+    rt: &impl Abort,
+    alloc: Global,
+    text: &str,
+    action: Action,
+) -> Result<(), Fail> {
+    let geometry = Geometry::new(8).ok_or("no geometry")?;
+    let trigger = Trigger::Access(1);
+    expect_with(rt, alloc, geometry, text, &[ScriptLine { trigger, action }])
+}
+
+#[test]
+fn the_last_places_of_8_levels_are_swapped(rt: HostRuntime) -> Result<(), Fail> {
+    let cases = [
+        (
+            "access 1: swap data 4194303 data 4194303",
+            LAST_LINE_OF_8_LEVELS,
+        ),
+        (
+            "access 1: swap node 0 65535 node 0 65535",
+            LAST_NODE_OF_8_LEVELS,
+        ),
+    ];
+    for (text, place) in cases {
+        let action = Action::Swap {
+            first: place,
+            second: place,
+        };
+        expect_at_8_levels(&rt, rt.alloc(), text, action)?;
+    }
+    Ok(())
+}
+
+#[test]
+fn the_last_places_of_8_levels_are_saved(rt: HostRuntime) -> Result<(), Fail> {
+    let cases = [
+        ("access 1: save 0 data 4194303", LAST_LINE_OF_8_LEVELS),
+        ("access 1: save 0 node 0 65535", LAST_NODE_OF_8_LEVELS),
+    ];
+    for (text, place) in cases {
+        let action = Action::Save { register: 0, place };
+        expect_at_8_levels(&rt, rt.alloc(), text, action)?;
+    }
+    Ok(())
+}
+
+#[test]
+fn the_last_places_of_8_levels_are_restored(rt: HostRuntime) -> Result<(), Fail> {
+    let cases = [
+        ("access 1: restore 0 data 4194303", LAST_LINE_OF_8_LEVELS),
+        ("access 1: restore 0 node 0 65535", LAST_NODE_OF_8_LEVELS),
+    ];
+    for (text, place) in cases {
+        let action = Action::Restore { register: 0, place };
+        expect_at_8_levels(&rt, rt.alloc(), text, action)?;
+    }
+    Ok(())
+}
+
+#[test]
+fn places_outside_a_memory_with_8_levels(rt: HostRuntime) -> Result<(), Fail> {
+    let geometry = Geometry::new(8).ok_or("no geometry")?;
+    let lines = [
+        "access 1: save 0 data 4194304",
+        "access 1: save 0 node 0 65536",
+        "access 1: save 0 node 8 1",
+        "access 1: save 0 node 9 0",
+    ];
+    expect_faults_with(&rt, rt.alloc(), geometry, &lines, 1, ScriptFault::Place)
+}
+
+#[test]
+fn data_places_of_layout_two_have_72_bytes(rt: HostRuntime) -> Result<(), Fail> {
+    let geometry = Geometry::with(Layout::Two, 5).ok_or("no geometry")?;
+    let action = Action::Set {
+        place: Place::Line(2_097_151),
+        offset: 71,
+        bytes: bytes_of(&[0xff])?,
+    };
+    let line = ScriptLine {
+        trigger: Trigger::Access(1),
+        action,
+    };
+    let text = "access 1: set data 2097151 71 ff";
+    expect_with(&rt, rt.alloc(), geometry, text, &[line])?;
+    let long = [
+        "access 1: set data 0 72 ff",
+        "access 1: set data 0 71 ffff",
+        "access 1: flip data 0 72 ff",
+        "access 1: set node 0 0 64 ff",
+    ];
+    expect_faults_with(&rt, rt.alloc(), geometry, &long, 1, ScriptFault::Span)
+}
+
+#[test]
+fn places_outside_a_memory_of_layout_two(rt: HostRuntime) -> Result<(), Fail> {
+    let geometry = Geometry::with(Layout::Two, 5).ok_or("no geometry")?;
+    let texts = [
+        "access 1: saveall 0\naccess 1: save 0 data 2097152",
+        "\naccess 1: save 0 node 6 0",
+    ];
+    expect_faults_with(&rt, rt.alloc(), geometry, &texts, 2, ScriptFault::Place)
+}
+
+// Where a data place is put with these digits behind the 64 bytes of the line, under layout Two.
+fn put_under_two(alloc: Global, digits: &str) -> Result<String, Fail> {
+    let mut text = String::new(alloc);
+    text.push_str("access 1: put data 0 ")?;
+    text.push_str(DIGITS)?;
+    text.push_str(digits)?;
+    Ok(text)
+}
+
+#[test]
+fn a_put_of_layout_two_has_72_bytes(rt: HostRuntime) -> Result<(), Fail> {
+    let geometry = Geometry::with(Layout::Two, 1).ok_or("no geometry")?;
+    let mut bytes = [0; 72];
+    for (at, byte) in bytes.iter_mut().enumerate() {
+        *byte = at as u8 % 64;
+    }
+    let action = Action::Put {
+        place: Place::Line(0),
+        bytes: bytes_of(&bytes)?,
+    };
+    let line = ScriptLine {
+        trigger: Trigger::Access(1),
+        action,
+    };
+    let text = put_under_two(rt.alloc(), "0001020304050607")?;
+    expect_with(&rt, rt.alloc(), geometry, text.as_str(), &[line])?;
+    let others = [
+        "",
+        "00010203040506",
+        "000102030405060708",
+        "000102030405060708090a0b0c0d0e0f",
+    ];
+    for digits in others {
+        let text = put_under_two(rt.alloc(), digits)?;
+        expect_fault_with(
+            &rt,
+            rt.alloc(),
+            geometry,
+            text.as_str().as_bytes(),
+            1,
+            ScriptFault::Span,
+        )?;
     }
     Ok(())
 }

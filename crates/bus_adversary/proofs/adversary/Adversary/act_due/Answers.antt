@@ -9,10 +9,10 @@ loop-line-preserved c =
     record {
       done = due_more c.args.next c.as_slice-line-items.result.now c.loop-line.line-index c.line-item.result
           c.args.self.now c.loop-line.self c.act_line.new.self inside is c.loop-line.invariant.done c.in_ok-act_line.ensures.ok;
-      levels = c.act_line.ensures.levels ∙ c.loop-line.invariant.levels;
+      geometry = c.act_line.ensures.geometry ∙ c.loop-line.invariant.geometry;
       changes = changes_more c.as_slice-line-items.result.now c.loop-line.line-index c.line-item.result
           c.args.self.now.places c.loop-line.self.places c.act_line.new.self.places
-          inside is c.loop-line.invariant.levels c.loop-line.invariant.changes c.act_line.ensures.changes;
+          inside is c.loop-line.invariant.geometry c.loop-line.invariant.changes c.act_line.ensures.changes;
     }
 
 pub returns-in_err-act_line-clause-changes : goal.returns-in_err-act_line-clause-changes
@@ -22,4 +22,4 @@ returns-in_err-act_line-clause-changes c =
     rw (← c.as_slice-line-items.ensures)
     (changes_more c.as_slice-line-items.result.now c.loop-line.line-index c.line-item.result
     c.args.self.now.places c.loop-line.self.places c.act_line.new.self.places
-    inside is c.loop-line.invariant.levels c.loop-line.invariant.changes c.act_line.ensures.changes)
+    inside is c.loop-line.invariant.geometry c.loop-line.invariant.changes c.act_line.ensures.changes)

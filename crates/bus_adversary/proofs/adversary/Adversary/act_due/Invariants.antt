@@ -6,6 +6,6 @@ use Rattle.std.proofs.Common.{take, ◌≡◌}
 abbrev pub invariant-loop-line : goal.invariant-loop-line
 invariant-loop-line l = record {
   done : l.self ≡ after_due l.next (take l.line-index l.line-items) l.fn.self;
-  levels : l.self.places.levels ≡ l.fn.self.places.levels;
+  geometry : l.self.places.geometry ≡ l.fn.self.places.geometry;
   changes : ChangesOnly l.fn.self.places l.self.places (script_may_change l.line-items);
 }

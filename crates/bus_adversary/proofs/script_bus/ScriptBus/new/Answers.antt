@@ -13,7 +13,7 @@ invariant_of-result c = (
   new_follows c.args.script _ c.args.geometry c.in_ok-new-2.field-0.places
       (judged_new _ _ _ c.in_ok-new.ensures c.none.ensures)
       (ap (λ (m : AdversaryView). m.places) c.in_ok-new-2.ensures) c.requires.fits,
-  ap (λ (n : PlaceCountsView). n.levels) c.in_ok-new-3.ensures ∙ sym (ap (λ (h : BusHistory). h.levels) c.in_ok-new.ensures),
+  ap (λ (n : PlaceCountsView). n.geometry) c.in_ok-new-3.ensures ∙ sym (ap (λ (h : BusHistory). h.geometry) c.in_ok-new.ensures),
 )
 
 pub returns-clause-history : goal.returns-clause-history

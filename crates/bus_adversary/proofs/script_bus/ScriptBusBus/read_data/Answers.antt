@@ -10,11 +10,11 @@ use Rattle.std.proofs.Common.{sym, ◌∙◌}
 pub invariant_of-self-2 : goal.invariant_of-self-2
 invariant_of-self-2 c = (
   read_follows c.self.inside.script _ _ c.self.inside.adversary.places c.act_due.new.self.places (Line c.args.line) (sealed_bytes c.sealed-answer.result)
-      c.self.invariant.0 (rw (← c.self.view_is) at c.requires.inside) c.act_due.ensures.levels c.act_due.ensures.changes c.sealed-answer.ensures
+      c.self.invariant.0 (rw (← c.self.view_is) at c.requires.inside) c.act_due.ensures.geometry c.act_due.ensures.changes c.sealed-answer.ensures.bytes
       (judged_read (honest_history c.self.inside.bus) (honest_history c.read_data.new.self) c.self.inside.lies c.judge_sealed.new.self (Line c.args.line)
       (sealed_bytes c.in_ok-written.written) (sealed_bytes c.sealed-answer.result) _
       c.in_ok-written.ensures.ok c.in_ok-written.ensures.answer c.accesses-access.ensures c.judge_sealed.ensures),
-  c.self.invariant.1 ∙ sym c.in_ok-written.ensures.levels,
+  c.self.invariant.1 ∙ sym c.in_ok-written.ensures.geometry,
 )
 
 pub returns-clause-state : goal.returns-clause-state

@@ -9,11 +9,11 @@ use Rattle.std.proofs.Common.{sym, ◌∙◌}
 pub invariant_of-self-2 : goal.invariant_of-self-2
 invariant_of-self-2 c = (
   read_follows c.self.inside.script _ _ c.self.inside.adversary.places c.act_due.new.self.places (Node c.args.level c.args.index) c.block-answer.result
-      c.self.invariant.0 (rw (← c.self.view_is) at c.requires.inside) c.act_due.ensures.levels c.act_due.ensures.changes c.block-answer.ensures
+      c.self.invariant.0 (rw (← c.self.view_is) at c.requires.inside) c.act_due.ensures.geometry c.act_due.ensures.changes c.block-answer.ensures
       (judged_read (honest_history c.self.inside.bus) (honest_history c.read_node.new.self) c.self.inside.lies c.judge_block.new.self (Node c.args.level c.args.index)
       c.in_ok-written.written c.block-answer.result _
       c.in_ok-written.ensures.ok c.in_ok-written.ensures.answer c.accesses-access.ensures c.judge_block.ensures),
-  c.self.invariant.1 ∙ sym c.in_ok-written.ensures.levels,
+  c.self.invariant.1 ∙ sym c.in_ok-written.ensures.geometry,
 )
 
 pub returns-clause-state : goal.returns-clause-state
