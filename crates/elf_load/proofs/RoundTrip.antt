@@ -3,6 +3,7 @@ use Rattle.std.proofs.Common.{◌≡◌, ℕ, ◌+◌, ◌*◌, ◌^◌, ◌<◌
 use Rattle.std.proofs.lemmas.List.{append-nil}
 use Rattle.sec_base.specs.Image.{IsImage}
 use Rattle.sec_base.specs.Program.{IsImageOf}
+use Rattle.sec_base.specs.Segment.{segment_bytes}
 use Rattle.sec_base.specs.declared.segment.Segment.{Segment}
 use Rattle.sec_base.specs.declared.image.Image.{Image}
 use Rattle.elf_load.specs.Format.{FileHeader}
@@ -19,11 +20,11 @@ use Rattle.elf_load.proofs.SpelledTables.{bytes_fit, memory_below}
 
 -- over the parts of the image
 parts_back : (entry size count offset : ℕ) (segments : List Segment) (file : List ℕ) → IsImage entry size segments
-    → count ≡ length segments → offset ≡ 52 + 32 * count
+    → segment_bytes segments < 2 ^ 31 → count ≡ length segments → offset ≡ 52 + 32 * count
     → file ≡ spelled_header entry count ++ spelled_table offset segments ++ joined_bytes segments
     → (first_fault file size ≡ None) × (entry_of file ≡ entry) × (segments ≡ segments_of file)
-parts_back entry size count offset segments file image count_is offset_is file_is =
-    let fits = bytes_fit entry size segments image in
+parts_back entry size count offset segments file image few_bytes count_is offset_is file_is =
+    let fits = bytes_fit segments image.few few_bytes in
     let small : size < 2 ^ 32 = omega (arith, memory_below size image.memory) in
     let few : count ≤ 64 = omega (arith, image.few) in
     let head : List ℕ = spelled_header entry count in
@@ -52,8 +53,9 @@ parts_back entry size count offset segments file image count_is offset_is file_i
       segments_are file (header_back entry count) (headers_back offset segments) segments (sym header) headers_are loaded,
     )
 
-pub read_back : (image : Image) → IsOkAnd (elf_program (spelled image) image.size) (λ program. IsImageOf image.size program image)
+pub read_back : (image : Image) → segment_bytes image.segments < 2 ^ 31
+    → IsOkAnd (elf_program (spelled image) image.size) (λ program. IsImageOf image.size program image)
 unfolding spelled
-read_back image =
-    let parts = parts_back image.entry image.size (length image.segments) (52 + 32 * length image.segments) image.segments (spelled image) image.fits refl refl refl in
+read_back image few_bytes =
+    let parts = parts_back image.entry image.size (length image.segments) (52 + 32 * length image.segments) image.segments (spelled image) image.fits few_bytes refl refl refl in
     elf_image (spelled image) image.size image parts.0 (sym parts.1) refl parts.2

@@ -1,13 +1,10 @@
 -- The table of program headers, a segment at a time, and that its offsets fit their fields.
-use Rattle.std.proofs.Common.{◌≡◌, ℕ, ◌+◌, ◌*◌, ◌^◌, ◌<◌, ◌≤◌, List, [], ◌∷◌, ◌++◌, length, drop, get_or, refl, sym, ◌∙◌, arith, length-append, append_assoc, drop-cons, add-one}
-use Rattle.std.specs.List.{All}
-use Rattle.std.proofs.Math.Nat.{mul-le-mul_right}
+use Rattle.std.proofs.Common.{◌≡◌, ℕ, ◌+◌, ◌*◌, ◌^◌, ◌<◌, ◌≤◌, List, ◌∷◌, ◌++◌, length, drop, get_or, refl, sym, ◌∙◌, arith, length-append, append_assoc, drop-cons, add-one}
 use Rattle.std.proofs.lemmas.List.{append-nil, drop_all}
-use Rattle.std.proofs.lemmas.List.Elements.{All-head, All-tail}
+use Rattle.std.proofs.lemmas.List.Concat.{length-flat_map}
 use Rattle.std.proofs.lemmas.Bool.Decides.{nat_tests}
 use Rattle.sec_base.specs.Geometry.{IsMemorySize}
-use Rattle.sec_base.specs.Image.{IsImage}
-use Rattle.sec_base.specs.Segment.{IsSegment}
+use Rattle.sec_base.specs.Segment.{segment_bytes}
 use Rattle.sec_base.specs.declared.segment.Segment.{Segment}
 use Rattle.elf_load.specs.Spelling.{spelled_segment, spelled_table, joined_bytes}
 
@@ -36,21 +33,10 @@ pub bytes_step : (offset : ℕ) (segments : List Segment) (i : ℕ) (segment : S
 bytes_step offset segments i segment inside here =
     rw (rest_of segments i segment inside here) (omega (arith, length-append segment.bytes (joined_bytes (drop (i + 1) segments))))
 
-pub memory_below : (size : ℕ) → IsMemorySize size → size ≤ 2 ^ 24
+pub memory_below : (size : ℕ) → IsMemorySize size → size ≤ 2 ^ 28
 memory_below size memory = grind (arith, nat_tests)
 
-length-joined_bytes : (size : ℕ) (segments : List Segment) → All (IsSegment size) segments → length (joined_bytes segments) ≤ length segments * size
-length-joined_bytes size [] each = omega arith
-length-joined_bytes size (segment ∷ segments) each =
-    let here : IsSegment size segment = All-head (IsSegment size) segment segments each in
-    let rest = length-joined_bytes size segments (All-tail (IsSegment size) segment segments each) in
-    omega (arith, rest, here.bytes, here.inside, length-append segment.bytes (joined_bytes segments))
-
 -- the bytes of a program end below 2 ^ 32 in its file
-pub bytes_fit : (entry size : ℕ) (segments : List Segment) → IsImage entry size segments
+pub bytes_fit : (segments : List Segment) → length segments ≤ 64 → segment_bytes segments < 2 ^ 31
     → 52 + 32 * length segments + length (joined_bytes segments) < 2 ^ 32
-bytes_fit entry size segments image =
-    let below = memory_below size image.memory in
-    let more = length-joined_bytes size segments image.each in
-    let few : length segments * size ≤ 64 * size = mul-le-mul_right size image.few in
-    omega (arith, below, more, few, image.few)
+bytes_fit segments few small = omega (arith, few, small, length-flat_map (λ (segment : Segment). segment.bytes) segments)

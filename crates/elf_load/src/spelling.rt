@@ -3,6 +3,7 @@
 ghost use Rattle.elf_load.specs.Program.{elf_program};
 ghost use Rattle.elf_load.specs.Spelling.{joined_bytes, spelled, spelled_header, spelled_segment, spelled_table, u16_bytes, u32_bytes};
 ghost use Rattle.sec_base.specs.Program.{IsImageOf};
+ghost use Rattle.sec_base.specs.Segment.{segment_bytes};
 ghost use Rattle.std.specs.List.{flat_map};
 ghost use Rattle.std.specs.Prelude.{IfOk, IsOkAnd, OnOk, length, ◌*◌, ◌++◌, ◌+◌, ◌<◌, ◌^◌, ◌≡◌};
 
@@ -27,6 +28,7 @@ const UNALIGNED: u32 = 1;
 /// The ELF file of a program, of which `parse` gives the same program for a memory of its size. Fails only
 /// if out of memory.
 pub fn write(alloc: Global, image: &Image) -> Result<Bytes, NoMemory>
+    requires small { segment_bytes image.now.segments < 2 ^ 31 }
     ensures bytes { IfOk result (λ bytes. bytes ≡ spelled image.now) }
     ensures read_back { IsOkAnd (elf_program (spelled image.now) image.now.size) (λ program. IsImageOf image.now.size program image.now) }
 {
@@ -37,6 +39,7 @@ pub fn write(alloc: Global, image: &Image) -> Result<Bytes, NoMemory>
 // The bytes of a program's ELF file.
 #[tactic(auto, unfolding(crate::specs::Spelling::spelled))]
 fn spell(alloc: Global, image: &Image) -> Result<Vec<u8>, NoMemory>
+    requires { segment_bytes image.now.segments < 2 ^ 31 }
     ensures { IfOk result (λ file. file.items ≡ spelled image.now) }
 {
     let segments = image.segments.as_slice();

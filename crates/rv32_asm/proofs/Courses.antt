@@ -6,7 +6,6 @@ use Rattle.std.specs.Int.{to_le_bytes, w32}
 use Rattle.sec_base.specs.Width.{width_bytes}
 use Rattle.sec_base.proofs.NumberBytes.{length-number_bytes}
 use Rattle.sec_base.specs.declared.width.Width.{Width}
-use Rattle.sec_base.specs.declared.width.Width.TheVariants.{One, Two, Four}
 use Rattle.rv32_decode.specs.Encoding.{word_of}
 use Rattle.rv32_asm_syntax.specs.declared.fault.AsmFault.{AsmFault}
 use Rattle.rv32_asm_syntax.specs.declared.fault.AsmFault.TheVariants.{Range, Missing}

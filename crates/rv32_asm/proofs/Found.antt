@@ -9,7 +9,7 @@ use Rattle.std.specs.Str.{bytes_eq}
 use Rattle.std.proofs.lemmas.Bool.Decides.{same_from_decides}
 use Rattle.std.proofs.lemmas.Map.Text.{btree_map_updates_str, is_eq-slice_cmp}
 use Rattle.std.proofs.lemmas.Slice.Eq.{bytes_eq-Decides}
-use Rattle.rv32_asm.specs.Labels.{Label, Site, site_of}
+use Rattle.rv32_asm.specs.Labels.{Label, site_of}
 use Rattle.rv32_asm.specs.SeenLabels.{AreAlike, seen_label, seen_labels, seen_site}
 
 pub same_either_way : (a b : List ℕ) → bytes_eq a b ≡ bytes_eq b a

@@ -1,12 +1,10 @@
 -- The texts in a listing of bytes are the program of the bytes.
 use Rattle.std.proofs.Common.{◌≡◌, ℕ, zero, suc, ◌+◌, ◌%◌, ◌^◌, ◌<◌, ◌≤◌, All, List, [], ◌∷◌, ◌++◌, Ok, true, codes, get_or, length, length-append, map, refl, ap, sym, subst, ◌∙◌, arith}
-use Rattle.std.specs.Int.{w32, from_le_bytes, to_le_bytes}
+use Rattle.std.specs.Int.{w32, from_le_bytes}
 use Rattle.std.specs.List.{join_with_byte, list_all}
-use Rattle.std.proofs.lemmas.Bool.Decides.{nat_tests}
 use Rattle.std.proofs.lemmas.List.Elements.{All-head, All-tail}
 use Rattle.std.proofs.lemmas.List.{append-nil, append_assoc}
 use Rattle.std.proofs.lemmas.Nat.{le_bytes_4}
-use Rattle.sec_base.specs.Geometry.{IsMemorySize}
 use Rattle.sec_base.specs.Hexadecimal.{hex_digits}
 use Rattle.rv32_text.specs.Text.{text_of_word}
 use Rattle.rv32_listing.specs.Lines.{byte_line, bytes_lines, word_line}
@@ -23,9 +21,6 @@ use Rattle.rv32_asm.proofs.SecondSteps.{last_bytes}
 use Rattle.rv32_asm.proofs.TextLines.{followed_line, prefixed}
 use Rattle.rv32_asm.proofs.TextNumbers.{hex_digits_solid}
 use Rattle.rv32_asm.proofs.TextOperands.{column_cut, is_solid, solid_plain}
-
-pub memory_below : (size : ℕ) → IsMemorySize size → size < 2 ^ 32
-memory_below size memory = grind (arith, nat_tests)
 
 abbrev at : ℕ → Progress
 at address = record { address = address; labels = [] }

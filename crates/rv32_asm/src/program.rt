@@ -6,6 +6,7 @@ ghost use Rattle.rv32_asm_syntax.specs.declared.fault.AsmFault.{AsmFault};
 ghost use Rattle.sec_base.specs.Geometry.{IsMemorySize};
 ghost use Rattle.sec_base.specs.Image.{IsEntry};
 ghost use Rattle.sec_base.specs.Program.{IsImageOf};
+ghost use Rattle.sec_base.specs.Segment.{segment_bytes};
 ghost use Rattle.std.specs.Prelude.{Err, IfOk, IsOkAnd, Ok, length, ℕ, ◌<◌, ◌^◌, ◌≡◌};
 
 use crate::fault::AsmError;
@@ -23,6 +24,7 @@ pub fn assemble(alloc: Global, text: &[u8], size: u32) -> Result<Image, AsmError
     requires memory { IsMemorySize size }
     requires short { length text.now < 2 ^ 32 }
     ensures program { IfOk result (λ image. IsOkAnd (assembled_program text.now size) (λ program. IsImageOf size program image)) }
+    ensures small { IfOk result (λ image. segment_bytes image.segments < 2 ^ 31) }
     ensures refused { (line : ℕ) (code : AsmFault) → result ≡ Err (Fault line code) →
         assembled_program text.now size ≡ Err (record { line = line; code = code }) }
 {

@@ -1,7 +1,12 @@
 // The files were spelled, and the digests of the records computed, by Python's `struct` and `hashlib`.
+ghost use Rattle.std.specs.Prelude.{◌<◌, ◌^◌, IsTrue};
+ghost use Rattle.sec_base.specs.Segment.{segment_bytes};
+
 use byteorder::{ByteOrder, LittleEndian};
 use elf_load::{ElfError, ElfFault, flat, measure, parse, write};
+use sec_base::{Bytes, Image, Segment};
 use sha2::{Digest, Sha256};
+use std::alloc::Global;
 use std::fmt::Write;
 use std::test::Fail;
 
@@ -42,6 +47,30 @@ fn digits(rt: &HostRuntime, bytes: &[u8]) -> Result<String, Fail> {
     Ok(text)
 }
 
+// Whether the segments have fewer than 2^31 bytes together.
+fn are_small(segments: &[Segment]) -> bool
+    ensures { IsTrue result → segment_bytes segments.now < 2 ^ 31 }
+{
+    let mut left = 0x8000_0000;
+    for segment in segments {
+        let length = segment.bytes.len();
+        if length >= left {
+            return false;
+        }
+        left -= length;
+    }
+    true
+}
+
+// The ELF file of a program.
+fn written(alloc: Global, image: &Image) -> Result<Bytes, Fail> {
+    if !are_small(image.segments.as_slice()) {
+        return Err(Fail::from("too many bytes"));
+    }
+    let file = write(alloc, image).ok().ok_or("no memory")?;
+    Ok(file)
+}
+
 #[test]
 fn a_file_and_its_program(rt: HostRuntime) -> Result<(), Fail> {
     let image = parse(rt.alloc(), &EXIT_7_FILE, SIZE)?;
@@ -51,7 +80,7 @@ fn a_file_and_its_program(rt: HostRuntime) -> Result<(), Fail> {
     let segment = image.segments.get(0).ok_or("no segment")?;
     assert_eq!(rt; (segment.addr, segment.length), (0, 12));
     assert_eq!(rt; segment.bytes.as_slice(), EXIT_7.as_slice());
-    let file = write(rt.alloc(), &image).ok().ok_or("no memory")?;
+    let file = written(rt.alloc(), &image)?;
     assert_eq!(rt; file.as_slice(), EXIT_7_FILE.as_slice());
     let digest = "16f50c65e5d32ef308c297c15f9cdae14c3f482dd9e03853348a497b7abe0a1a";
     assert_eq!(rt; digits(&rt, &measure(&image))?.as_str(), digest);
@@ -87,7 +116,7 @@ fn segments_that_overlap_stay_in_order(rt: HostRuntime) -> Result<(), Fail> {
         assert_eq!(rt; (segment.addr, segment.length), (addr, length));
         assert_eq!(rt; segment.bytes.as_slice(), bytes);
     }
-    let file = write(rt.alloc(), &image).ok().ok_or("no memory")?;
+    let file = written(rt.alloc(), &image)?;
     assert_eq!(rt; file.as_slice(), OVERLAPPING.as_slice());
     assert_eq!(rt;
         digits(&rt, &measure(&image))?.as_str(),

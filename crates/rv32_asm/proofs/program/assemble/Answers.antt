@@ -4,6 +4,7 @@ use Rattle.sec_base.specs.Segment.{from_zero}
 use Rattle.rv32_asm.specs.Program.{entry_at}
 use Rattle.rv32_asm.specs.declared.fault.AsmError.TheVariants.{Fault}
 use Rattle.rv32_asm.proofs.Assembling.{end_is, no_bytes, no_entry, no_labels, program_is}
+use Rattle.rv32_asm.proofs.Sizes.{few_bytes}
 use Rattle.rv32_asm.proofs.program.assemble.Goals as goal
 
 pub returns-in_err-layout-clause-refused : goal.returns-in_err-layout-clause-refused
@@ -42,3 +43,8 @@ returns-clause-program c =
     c.in_ok-bytes.bytes.items c.in_ok-entry.entry c.in_ok-layout.ensures.reached c.in_ok-bytes.ensures.bytes
     (sym (ap (entry_at c.args.size) c.get.ensures) ∙ c.in_ok-entry.ensures.entry))
     (record { entry = refl; memory = refl; segments = c.in_ok-segments.ensures ∙ ap from_zero c.from_vec.ensures })
+
+pub returns-clause-small : goal.returns-clause-small
+returns-clause-small c =
+    few_bytes c.args.size c.in_ok-layout.layout.address c.in_ok-bytes.bytes.items _ _ c.requires.memory c.in_ok-layout.ensures.inside
+    c.in_ok-bytes.ensures.length c.from_vec.ensures c.in_ok-segments.ensures
