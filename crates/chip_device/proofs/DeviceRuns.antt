@@ -1,7 +1,7 @@
 -- A run on the device, as its pieces were made.
-use Rattle.std.proofs.Common.{◌≡◌, ℕ, List, Result, Ok, Err, refl}
+use Rattle.std.proofs.Common.{◌≡◌, ◌∙◌, ℕ, List, Option, Some, None, Result, Ok, Err, refl}
 use Rattle.std.specs.Result.{IsOkAnd}
-use Rattle.sec_base.specs.Geometry.{memory_size}
+use Rattle.sec_base.specs.Geometry.{GeometryView, memory_size}
 use Rattle.sec_base.specs.declared.image.Image.{Image}
 use Rattle.elf_load.specs.Measurement.{measurement_by, measurement_of}
 use Rattle.hmac_tag.specs.DeviceKeys.{keys_of}
@@ -12,19 +12,23 @@ use Rattle.rv32_core.specs.Machine.{opening as image_opening}
 use Rattle.sec_base.specs.Program.{IsImageOf, Program}
 use Rattle.chip_words.specs.declared.request.Tags.TheVariants.{Hmac, Xor}
 use Rattle.chip_words.specs.declared.request.Terms.{Terms}
+use Rattle.adversary_script.specs.declared.script.ScriptLine.{ScriptLine}
+use Rattle.chip_device.specs.Buses.{IsBusOf, IsSameKind}
+use Rattle.chip_device.specs.declared.run_bus.RunBus.{RunBus}
+use Rattle.chip_device.specs.declared.run_bus.RunBus.TheVariants.{Honest, Script}
 use Rattle.chip_device.specs.Device.{device_enc_key, device_tag, opening}
 
 -- the tags are the device's, where they are HMACs
-pub hmac_tag_is : (terms : Terms) (tagger : TagKeys) (keys : Keys) (levels : ℕ) → terms.tags ≡ Hmac → tagger ≡ record { line_key = keys.line_key; tree_key = keys.tree_key } → keys ≡ keys_of terms.device_key →
-    engine_tag (tag_of tagger.line_key) (tag_of tagger.tree_key) levels ≡ device_tag terms levels
+pub hmac_tag_is : (terms : Terms) (tagger : TagKeys) (keys : Keys) (geometry : GeometryView) → terms.tags ≡ Hmac → tagger ≡ record { line_key = keys.line_key; tree_key = keys.tree_key } → keys ≡ keys_of terms.device_key →
+    engine_tag (tag_of tagger.line_key) (tag_of tagger.tree_key) geometry ≡ device_tag terms geometry
 unfolding device_tag
-hmac_tag_is terms tagger keys levels tags under derived = rw (tags, under, derived) refl
+hmac_tag_is terms tagger keys geometry tags under derived = rw (tags, under, derived) refl
 
 -- and where they are made by xor
-pub xor_tag_is : (terms : Terms) (tagger : TagKeys) (keys : Keys) (levels : ℕ) → terms.tags ≡ Xor → tagger ≡ record { line_key = keys.line_key; tree_key = keys.tree_key } → keys ≡ keys_of terms.device_key →
-    engine_tag (xor_tag_of tagger.line_key) (xor_tag_of tagger.tree_key) levels ≡ device_tag terms levels
+pub xor_tag_is : (terms : Terms) (tagger : TagKeys) (keys : Keys) (geometry : GeometryView) → terms.tags ≡ Xor → tagger ≡ record { line_key = keys.line_key; tree_key = keys.tree_key } → keys ≡ keys_of terms.device_key →
+    engine_tag (xor_tag_of tagger.line_key) (xor_tag_of tagger.tree_key) geometry ≡ device_tag terms geometry
 unfolding device_tag
-xor_tag_is terms tagger keys levels tags under derived = rw (tags, under, derived) refl
+xor_tag_is terms tagger keys geometry tags under derived = rw (tags, under, derived) refl
 
 -- and so is the key that lines are encrypted under
 pub enc_key_is : (terms : Terms) (keys : Keys) → keys ≡ keys_of terms.device_key → keys.enc_key ≡ device_enc_key terms
@@ -32,15 +36,24 @@ unfolding device_enc_key
 enc_key_is terms keys derived = rw derived refl
 
 -- the machine is the program's as it begins
-pub opening_is : (levels : ℕ) (program : Program) (input : List ℕ) (image : Image) → IsImageOf (memory_size levels) program image → image_opening image input ≡ opening levels program input
-opening_is levels program input image is = rw (is.entry, is.memory, is.segments) refl
+pub opening_is : (geometry : GeometryView) (program : Program) (input : List ℕ) (image : Image) → IsImageOf (memory_size geometry) program image → image_opening image input ≡ opening geometry program input
+opening_is geometry program input image is = rw (is.entry, is.memory, is.segments) refl
 
 -- and so is what was measured
-pub measurement_is : (levels : ℕ) (program : Program) (image : Image) → IsImageOf (memory_size levels) program image →
-    measurement_of image ≡ measurement_by program.entry (memory_size levels) program.segments
-measurement_is levels program image is = rw (is.entry, is.memory, is.segments) refl
+pub measurement_is : (geometry : GeometryView) (program : Program) (image : Image) → IsImageOf (memory_size geometry) program image →
+    measurement_of image ≡ measurement_by program.entry (memory_size geometry) program.segments
+measurement_is geometry program image is = rw (is.entry, is.memory, is.segments) refl
 
 -- the program that there is
 pub program_of : {E : Type 0} (made : Result Program E) (P : Program → Type 0) → IsOkAnd made P → (program : Program) × (made ≡ Ok program) × P program
 program_of (Ok program) P holds = (program, refl, holds)
 program_of (Err fault) P holds = absurd holds
+
+-- a bus that follows a script follows it still
+pub still_of : (script : Option (List ScriptLine)) (old new : RunBus) → IsBusOf script old → IsSameKind old new → IsBusOf script new
+still_of None (Honest old) (Honest new) is same = tt
+still_of (Some script) (Script old) (Script new) is same = same.0 ∙ is
+still_of None (Honest old) (Script new) is same = absurd same
+still_of (Some script) (Script old) (Honest new) is same = absurd same
+still_of None (Script old) new is same = absurd is
+still_of (Some script) (Honest old) new is same = absurd is

@@ -1,6 +1,6 @@
 -- The device that a program runs on, by the terms of the run: its keys, the tags of messages, and what the run is of.
 use Rattle.std.specs.Prelude.{List, ℕ}
-use Rattle.sec_base.specs.Geometry.{memory_size}
+use Rattle.sec_base.specs.Geometry.{GeometryView, memory_size}
 use Rattle.sec_base.specs.Program.{Program}
 use Rattle.sec_base.specs.declared.message.Message.{Message}
 use Rattle.elf_load.specs.Measurement.{measurement_by}
@@ -20,23 +20,23 @@ abbrev pub tag_under : Tags → List ℕ → List ℕ → List ℕ
 tag_under Hmac key = tag_of key
 tag_under Xor key = xor_tag_of key
 
--- the tag of a message in the memory below a tree of so many levels, under the device's line key or tree key
-unfoldable pub device_tag : Terms → ℕ → Message → List ℕ
-device_tag terms levels message = engine_tag (tag_under terms.tags (keys_of terms.device_key).line_key)
-    (tag_under terms.tags (keys_of terms.device_key).tree_key) levels message
+-- the tag of a message in a memory of this geometry, under the device's line key or tree key
+unfoldable pub device_tag : Terms → GeometryView → Message → List ℕ
+device_tag terms geometry message = engine_tag (tag_under terms.tags (keys_of terms.device_key).line_key)
+    (tag_under terms.tags (keys_of terms.device_key).tree_key) geometry message
 
 -- the key that lines are encrypted under
 unfoldable pub device_enc_key : Terms → List ℕ
 device_enc_key terms = (keys_of terms.device_key).enc_key
 
--- the plain machine as the program begins on an input, in the memory of a tree of so many levels
-abbrev pub opening : ℕ → Program → List ℕ → Machine
-opening levels program input = opening_of program.entry (memory_size levels) program.segments input
+-- the plain machine as the program begins on an input, in a memory of this geometry
+abbrev pub opening : GeometryView → Program → List ℕ → Machine
+opening geometry program input = opening_of program.entry (memory_size geometry) program.segments input
 
 -- what the report of a run is of, as it was asked for: of this program and this input
 abbrev pub report_terms_of : RunAsked → Program → List ℕ → ReportTerms
 report_terms_of asked program input = record {
-  measurement = measurement_by program.entry (memory_size asked.execution.file.levels) program.segments;
+  measurement = measurement_by program.entry (memory_size asked.execution.file.geometry) program.segments;
   input = input;
   nonce = asked.terms.nonce;
   report_key = (keys_of asked.terms.device_key).report_key;
@@ -45,11 +45,11 @@ report_terms_of asked program input = record {
 -- what a run on protected memory is of, as it was asked for: of this program and this input
 abbrev pub terms_of : RunAsked → Program → List ℕ → RunTerms
 terms_of asked program input = record {
-  start = opening asked.execution.file.levels program input;
+  start = opening asked.execution.file.geometry program input;
   budget = asked.execution.steps;
-  levels = asked.execution.file.levels;
+  geometry = asked.execution.file.geometry;
   page_limit = asked.terms.page_limit;
-  tag_of = device_tag asked.terms asked.execution.file.levels;
+  tag_of = device_tag asked.terms asked.execution.file.geometry;
   enc_key = device_enc_key asked.terms;
   report = report_terms_of asked program input;
 }

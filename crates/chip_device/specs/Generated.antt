@@ -30,4 +30,4 @@ pub record RunsGenerated (number : ℕ) (printed : List ℕ) (run : RunRecord) (
   pub program_is : workload_of number ≡ Ok program
   pub bus_is : IsBusOf None bus
   pub runs : RunsProtected (terms_of generated_run program []) (gathered []) (gathered printed)
-      (new_history generated_execution.file.levels) (run_history bus) run
+      (new_history generated_execution.file.geometry) (run_history bus) run

@@ -1,6 +1,6 @@
 // The run of a generated program.
 ghost use Rattle.std.specs.Prelude.{◌≡◌, [], None, IfOk};
-ghost use Rattle.sec_base.specs.Geometry.{memory_size};
+ghost use Rattle.sec_base.specs.Geometry.{memory_size, one};
 ghost use Rattle.sec_base.specs.Program.{IsImageOf, Program};
 ghost use Rattle.bus_model.specs.BusHistory.{new_history};
 ghost use Rattle.chip_run.specs.Run.{RunsProtected};
@@ -78,10 +78,10 @@ fn run_by_default(
     image: &Image,
     printed: &mut Printed,
 ) -> Result<(RunRecord, RunBus), NoMemory>
-    requires size { image.now.size ≡ memory_size 4 }
-    ensures ran { (program : Program) → IsImageOf (memory_size 4) program image.now → IfOk result (λ done.
+    requires size { image.now.size ≡ memory_size (one 4) }
+    ensures ran { (program : Program) → IsImageOf (memory_size (one 4)) program image.now → IfOk result (λ done.
         RunsProtected (terms_of generated_run program []) (gathered printed.old) (gathered printed.new)
-        (new_history 4) (run_history done.1) done.0) }
+        (new_history (one 4)) (run_history done.1) done.0) }
     ensures bus { IfOk result (λ done. IsBusOf None done.1) }
 {
     let default = default_run("");

@@ -1,3 +1,4 @@
+pub mod Lengths
 pub mod Takings
 pub mod Accepted
 pub mod Verdicts

@@ -2,7 +2,7 @@
 use Rattle.std.proofs.Common.{◌≡◌, ◌≢◌, ◌≤◌, ◌⊎◌, inl, inr, ℕ, List, [], ◌∷◌, ◌++◌, length, Option, Some, IfSome, IsOkAnd, Result, Ok, Err, ◌+◌, refl, sym, ap, ◌∙◌, subst, arith, append-nil, append_assoc}
 use Rattle.std.specs.Result.{result_err, IfErr}
 use Rattle.sec_base.specs.Count.{Rose, RoseBy}
-use Rattle.sec_base.specs.Geometry.{memory_size}
+use Rattle.sec_base.specs.Geometry.{GeometryView, memory_size}
 use Rattle.sec_base.specs.Files.{FilesState, HasBytes, HasOver}
 use Rattle.sec_base.specs.declared.files.ReadStop.{ReadStop}
 use Rattle.sec_base.specs.declared.files.ReadStop.TheVariants.{Failed, Long, NoMemory as no_memory_read}
@@ -120,7 +120,7 @@ pub untold : (stop : Stop) (file : FileAsked) (bytes : List ℕ) (old new : File
 untold (Refused refusal) file bytes old new told within asked refused =
     let is = refused refusal refl in
     stops_here refusal (program_need file) old new asked
-    (is_cause refusal (program_need file) old new (file_refused file.form (memory_size file.levels) bytes refusal is) (misformed old file bytes refusal told within is))
+    (is_cause refusal (program_need file) old new (file_refused file.form (memory_size file.geometry) bytes refusal is) (misformed old file bytes refusal told within is))
 untold NoMemory file bytes old new told within asked refused = runs_out_here (program_need file) old new (inr asked)
 
 -- the image that was made of a file
@@ -252,10 +252,10 @@ stops_first NoMemory needs more old new stops = record {
 -- ---- a script
 
 -- its file was read, and is no script
-pub no_script : (error : ScriptError) (levels : ℕ) (name bytes : List ℕ) (old new : FilesState) → HasBytes old.held name bytes → length bytes ≤ script_limit → Asks (script_need levels name ∷ []) old new →
-    ((line : ℕ) (code : ScriptFault) → error ≡ ScriptFaulty line code → script_of levels bytes ≡ Err (record { line = line; code = code })) → IsStoppedBy (script_stop_of error) (script_need levels name ∷ []) old new
-no_script (ScriptFaulty line code) levels name bytes old new told within asked refused =
-    let same : script_in levels bytes ≡ Err (Script line code) = ap (or_refusal (λ fault. Script fault.line fault.code)) (refused line code refl) in
-    stops_here (Script line code) (script_need levels name) old new asked
+pub no_script : (error : ScriptError) (geometry : GeometryView) (name bytes : List ℕ) (old new : FilesState) → HasBytes old.held name bytes → length bytes ≤ script_limit → Asks (script_need geometry name ∷ []) old new →
+    ((line : ℕ) (code : ScriptFault) → error ≡ ScriptFaulty line code → script_of geometry bytes ≡ Err (record { line = line; code = code })) → IsStoppedBy (script_stop_of error) (script_need geometry name ∷ []) old new
+no_script (ScriptFaulty line code) geometry name bytes old new told within asked refused =
+    let same : script_in geometry bytes ≡ Err (Script line code) = ap (or_refusal (λ fault. Script fault.line fault.code)) (refused line code refl) in
+    stops_here (Script line code) (script_need geometry name) old new asked
     (record { bytes = bytes; told = told; within = within; fault = ap result_err same })
-no_script script_no_memory levels name bytes old new told within asked refused = runs_out_here (script_need levels name) old new (inr asked)
+no_script script_no_memory geometry name bytes old new told within asked refused = runs_out_here (script_need geometry name) old new (inr asked)

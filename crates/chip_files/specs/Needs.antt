@@ -6,6 +6,7 @@ use Rattle.chip_words.specs.Request.{Asked, ExecutionAsked, FileAsked, ReportAsk
 use Rattle.chip_files.specs.declared.refusal.Refusal.{Refusal}
 use Rattle.chip_files.specs.Program.{fault_in, limit_of, script_in, script_limit}
 use Rattle.chip_files.specs.Verdict.{form_fault, report_limit, verdict_of}
+use Rattle.sec_base.specs.Geometry.{GeometryView}
 
 -- a file's name, how many bytes of it are read at most, and what is wrong with bytes that don't have its form
 pub record Need : Type 0 where
@@ -17,15 +18,15 @@ pub record Need : Type 0 where
 abbrev pub program_need : FileAsked → Need
 program_need file = record { name = file.name; limit = limit_of file.form; fault = fault_in file }
 
--- a script has its form, and fits the memory below a tree of so many levels
-abbrev pub script_need : ℕ → List ℕ → Need
-script_need levels name =
-    record { name = name; limit = script_limit; fault = λ bytes. result_err (script_in levels bytes) }
+-- a script has its form, and fits a memory of this geometry
+abbrev pub script_need : GeometryView → List ℕ → Need
+script_need geometry name =
+    record { name = name; limit = script_limit; fault = λ bytes. result_err (script_in geometry bytes) }
 
 -- the adversary's script is needed where the request names one
-abbrev pub script_needs : ℕ → Option (List ℕ) → List Need
-script_needs levels None = []
-script_needs levels (Some name) = script_need levels name ∷ []
+abbrev pub script_needs : GeometryView → Option (List ℕ) → List Need
+script_needs geometry None = []
+script_needs geometry (Some name) = script_need geometry name ∷ []
 
 -- no longer input is read
 abbrev pub input_limit : ℕ
@@ -52,7 +53,7 @@ execution_needs execution = program_need execution.file ∷ input_needs executio
 -- a program, then the script of the adversary, where one is named, and then the program's input
 abbrev pub run_needs : RunAsked → List Need
 run_needs asked = program_need asked.execution.file
-    ∷ (script_needs asked.execution.file.levels asked.script ++ input_needs asked.execution.input)
+    ∷ (script_needs asked.execution.file.geometry asked.script ++ input_needs asked.execution.input)
 
 -- the files that a request needs: a generated program needs none
 abbrev pub asked_needs : Asked → List Need

@@ -2,7 +2,7 @@
 -- for just one reason.
 use Rattle.std.specs.Prelude.{◌≡◌, ℕ, List, Option, Result, Ok, Err}
 use Rattle.std.specs.Result.{result_err}
-use Rattle.sec_base.specs.Geometry.{memory_size}
+use Rattle.sec_base.specs.Geometry.{GeometryView, memory_size}
 use Rattle.sec_base.specs.Program.{IsImageOf, Program}
 use Rattle.sec_base.specs.declared.image.Image.{Image}
 use Rattle.adversary_script.specs.Script.{script_of}
@@ -34,15 +34,15 @@ limit_of AssemblyText = 1048576
 
 -- the program that these bytes are, where they are the file's
 abbrev pub program_of_file : FileAsked → List ℕ → Result Program Refusal
-program_of_file file bytes = program_in file.form (memory_size file.levels) bytes
+program_of_file file bytes = program_in file.form (memory_size file.geometry) bytes
 
 -- what is wrong with these bytes, where they are the file's
 abbrev pub fault_in : FileAsked → List ℕ → Option Refusal
 fault_in file bytes = result_err (program_of_file file bytes)
 
--- the script that a file is for the memory below a tree of so many levels, or why it is refused
-abbrev pub script_in : ℕ → List ℕ → Result (List ScriptLine) Refusal
-script_in levels file = or_refusal (λ fault. Script fault.line fault.code) (script_of levels file)
+-- the script that a file is for a memory of this geometry, or why it is refused
+abbrev pub script_in : GeometryView → List ℕ → Result (List ScriptLine) Refusal
+script_in geometry file = or_refusal (λ fault. Script fault.line fault.code) (script_of geometry file)
 
 -- how many bytes of a script are read at most
 abbrev pub script_limit : ℕ

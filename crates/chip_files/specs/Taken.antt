@@ -7,6 +7,7 @@ use Rattle.chip_words.specs.Request.{ExecutionAsked, FileAsked, ReportAsked, Run
 use Rattle.chip_files.specs.Program.{program_of_file, script_in}
 use Rattle.chip_files.specs.Needs.{IsAccepted, execution_needs, input_need, program_need, report_need, run_needs, script_need}
 use Rattle.chip_files.specs.Causes.{Asks}
+use Rattle.sec_base.specs.Geometry.{GeometryView}
 
 -- the files tell their bytes
 abbrev pub Tell : FilesState → Type 0
@@ -19,17 +20,17 @@ pub record IsProgram (files : FilesState) (file : FileAsked) (program : Program)
   pub is : program_of_file file bytes ≡ Ok program
 
 -- the file can be accepted, and its bytes are this script
-pub record IsScriptFile (files : FilesState) (levels : ℕ) (name : List ℕ) (script : List ScriptLine) : Type 0 where
+pub record IsScriptFile (files : FilesState) (geometry : GeometryView) (name : List ℕ) (script : List ScriptLine) : Type 0 where
   pub bytes : List ℕ
-  pub accepted : IsAccepted files (script_need levels name) bytes
-  pub is : script_in levels bytes ≡ Ok script
+  pub accepted : IsAccepted files (script_need geometry name) bytes
+  pub is : script_in geometry bytes ≡ Ok script
 
 -- the script is the named file's, and there is none where none is named
-abbrev pub IsScript : FilesState → ℕ → Option (List ℕ) → Option (List ScriptLine) → Type 0
-IsScript files levels None None = Unit {0}
-IsScript files levels (Some name) (Some script) = IsScriptFile files levels name script
-IsScript files levels None (Some script) = ⊥
-IsScript files levels (Some name) None = ⊥
+abbrev pub IsScript : FilesState → GeometryView → Option (List ℕ) → Option (List ScriptLine) → Type 0
+IsScript files geometry None None = Unit {0}
+IsScript files geometry (Some name) (Some script) = IsScriptFile files geometry name script
+IsScript files geometry None (Some script) = ⊥
+IsScript files geometry (Some name) None = ⊥
 
 -- the input is the named file's bytes, and nothing where none is named
 abbrev pub IsInput : FilesState → Option (List ℕ) → List ℕ → Type 0
@@ -45,7 +46,7 @@ pub record ReadsExecution (execution : ExecutionAsked) (old new : FilesState) (p
 -- a program, the script of the adversary and the program's input were read and accepted, in this order
 pub record ReadsRun (run : RunAsked) (old new : FilesState) (program : Program) (script : Option (List ScriptLine)) (input : List ℕ) : Type 0 where
   pub program_is : IsProgram old run.execution.file program
-  pub script_is : IsScript old run.execution.file.levels run.script script
+  pub script_is : IsScript old run.execution.file.geometry run.script script
   pub input_is : IsInput old run.execution.input input
   pub asked : Asks (run_needs run) old new
 

@@ -1,6 +1,7 @@
 // Programs out of files.
 ghost use Rattle.std.specs.Prelude.{◌≡◌, ◌<◌, ◌≤◌, ◌^◌, length, Err, IfOk};
 ghost use Rattle.sec_base.specs.Geometry.{IsMemorySize};
+ghost use Rattle.sec_base.specs.Segment.{segment_bytes};
 ghost use Rattle.chip_files.specs.Program.{IsImageIn, limit_of, program_in as program_of};
 ghost use Rattle.chip_files.specs.declared.refusal.Refusal.{Refusal};
 ghost use Rattle.chip_files.specs.declared.stop.Stop.TheVariants.{Refused};
@@ -26,8 +27,9 @@ pub fn most_bytes(form: ProgramForm) -> u64
 /// The program that a file of this form is, for a memory of `size` bytes.
 pub fn program_in(alloc: Global, form: ProgramForm, bytes: &[u8], size: u32) -> Result<Image, Stop>
     requires memory { IsMemorySize size }
-    requires short { length bytes.now < 2 ^ 32 }
+    requires short { length bytes.now ≤ 8388608 }
     ensures program { IfOk result (IsImageIn form size bytes.now) }
+    ensures small { IfOk result (λ image. segment_bytes image.segments < 2 ^ 31) }
     ensures refused { (refusal : Refusal) → result ≡ Err (Refused refusal) → program_of form size bytes.now ≡ Err refusal }
 {
     match form {

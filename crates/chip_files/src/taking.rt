@@ -1,9 +1,10 @@
 // The files of a request.
-ghost use Rattle.std.specs.Prelude.{◌≡◌, ◌≤◌, [], ◌∷◌, ◌++◌, List, ℕ, Option, Some, None, length, option_map, IfOk, IfErr, IfSome, OnOk};
+ghost use Rattle.std.specs.Prelude.{◌≡◌, ◌<◌, ◌≤◌, ◌^◌, [], ◌∷◌, ◌++◌, List, ℕ, Option, Some, None, length, option_map, IfOk, IfErr, IfSome, OnOk};
 ghost use Rattle.adversary_script.specs.Script.{FitScript};
 ghost use Rattle.sec_base.specs.Files.{HasBytes};
 ghost use Rattle.sec_base.specs.Geometry.{memory_size};
 ghost use Rattle.sec_base.specs.Program.{IsImageOf, Program};
+ghost use Rattle.sec_base.specs.Segment.{segment_bytes};
 ghost use Rattle.chip_words.specs.Words.{execution_asked, file_asked, report_asked, run_asked};
 ghost use Rattle.chip_files.specs.Causes.{Asks};
 ghost use Rattle.chip_files.specs.Needs.{execution_needs, input_needs, program_need, report_need, run_needs, script_needs};
@@ -83,6 +84,7 @@ pub fn take_program<F: Files>(
 ) -> Result<Image, Stop>
     ensures taken { IfOk result (λ image. (program : Program) × IsImageOf (memory_size file.now.geometry) program image
         × IsProgram (F.state files.old) (file_asked file.now) program) }
+    ensures small { IfOk result (λ image. segment_bytes image.segments < 2 ^ 31) }
     ensures asked { OnOk result (Asks (program_need (file_asked file.now) ∷ []) (F.state files.old) (F.state files.new)) }
     ensures stopped { IfErr result (λ stop.
         IsStoppedBy stop (program_need (file_asked file.now) ∷ []) (F.state files.old) (F.state files.new)) }

@@ -55,7 +55,7 @@ came_refused (WordsWrongValue fault) request files out none = ((none, refl), ref
 came_refused words_no_memory request files out none = (came_unread request files, refl)
 
 -- a text of the program that was read was written
-pub writes_of : (file : FileAsked) (text : Image → List ℕ) (program : Program) (image : Image) (files files' : FilesState) (out out' : SinkState) (telling : Telling) → IsImageOf (memory_size file.levels) program image →
+pub writes_of : (file : FileAsked) (text : Image → List ℕ) (program : Program) (image : Image) (files files' : FilesState) (out out' : SinkState) (telling : Telling) → IsImageOf (memory_size file.geometry) program image →
     IsProgram files file program → Asks (program_need file ∷ []) files files' → IsWritten (text image) out out' telling → Writes file text files files' out out' telling
 writes_of file text program image files files' out out' telling is_image is_program asked told = record {
   program = program;

@@ -117,7 +117,7 @@ tampered_cause asked program input bus {run = run} runs is =
     let ending = tampered_of run.ending low.1 in
     record {
       no_evidence = low.0;
-      caught = caught (device_tag asked.terms asked.execution.file.levels) run (run_history bus) ending.0 ending.1 (runs.ran.without_evidence low.0).bus.answers;
+      caught = caught (device_tag asked.terms asked.execution.file.geometry) run (run_history bus) ending.0 ending.1 (runs.ran.without_evidence low.0).bus.answers;
     }
 
 pub spent_cause : (asked : RunAsked) (program : Program) (input : List ℕ) (bus : RunBus) {old new : SinkState} {before : BusHistory} {run : RunRecord} → RunsProtected (terms_of asked program input) old new before (run_history bus) run → code_of (run_status run) ≡ 6 → EndedSpent asked run bus

@@ -126,7 +126,7 @@ memory_cases _ = inr (λ e. cc)
 -- it is the run over the whole budget
 abbrev pub IsRunWhole : ExecutionAsked → Program → List ℕ → ℕ → RunRecord → RunBus → Type 0
 IsRunWhole execution program input status run bus =
-    IsWhole (opening execution.file.levels program input) execution.steps run.retired run.ending × (status ≡ code_of (ending_status run.ending))
+    IsWhole (opening execution.file.geometry program input) execution.steps run.retired run.ending × (status ≡ code_of (ending_status run.ending))
 
 abbrev pub other_statuses : List Status
 other_statuses = status.Spent ∷ status.NoMemory ∷ []
@@ -161,9 +161,9 @@ ran_ready : (asked : RunAsked) (program : Program) (script : Option (List Script
 ran_ready asked program script input files files' out out' run bus ready came none quiet =
     let same = same_program files asked.execution.file program came.program ready.tells ready.program_is came.reads.program_is in
     let same_in = same_input asked.execution.input input came.input files ready.tells ready.input_is came.reads.input_is in
-    ran_whole asked program input out out' (new_history asked.execution.file.levels) bus run
-    (subst (λ (p : Program). RunsProtected (terms_of asked p input) out out' (new_history asked.execution.file.levels) (run_history bus) run) same
-    (subst (λ (i : List ℕ). RunsProtected (terms_of asked came.program i) out out' (new_history asked.execution.file.levels) (run_history bus) run) same_in came.runs)) none quiet
+    ran_whole asked program input out out' (new_history asked.execution.file.geometry) bus run
+    (subst (λ (p : Program). RunsProtected (terms_of asked p input) out out' (new_history asked.execution.file.geometry) (run_history bus) run) same
+    (subst (λ (i : List ℕ). RunsProtected (terms_of asked came.program i) out out' (new_history asked.execution.file.geometry) (run_history bus) run) same_in came.runs)) none quiet
 
 whole_of : (course : Course) (telling : Telling) (asked : RunAsked) (program : Program) (script : Option (List ScriptLine)) (input : List ℕ) (files files' : FilesState) (out out' note note' : SinkState) → CameAbout course (Ok (to_run asked)) files files' out out' →
     TellsCourse course note note' telling → Ready (to_run asked) files program script input → lies_of (course_bus course) ≡ 0 → ¬ Rose files.faults files'.faults → ¬ Rose out.faults out'.faults → ¬ Rose note.faults note'.faults →
@@ -213,7 +213,7 @@ plain_statuses execution program input = plain_status execution program input �
 plain_other : (execution : ExecutionAsked) (program : Program) (input : List ℕ) (status : ℕ) → status ≡ 10 → IsOneOf (plain_statuses execution program input) status
 plain_other execution program input status is = (1, omega arith, sym is)
 
-plainly_whole : (execution : ExecutionAsked) (program : Program) (input : List ℕ) (out out' : SinkState) (run : PlainRecord) → RunsPlain (opening execution.file.levels program input) execution.steps out out' run → ¬ Rose out.faults out'.faults →
+plainly_whole : (execution : ExecutionAsked) (program : Program) (input : List ℕ) (out out' : SinkState) (run : PlainRecord) → RunsPlain (opening execution.file.geometry program input) execution.steps out out' run → ¬ Rose out.faults out'.faults →
     IsOneOf (plain_statuses execution program input) (code_of (ending_status run.ending))
 plainly_whole execution program input out out' run runs quiet = elim (memory_cases run.ending) [
   | inl gone ↦ plain_other execution program input (code_of (ending_status run.ending)) (ap (λ e. code_of (ending_status e)) gone)
@@ -374,8 +374,8 @@ summary_whole number program run bus (Ok _) files files' out out' summarizes is 
     let e : Ok summarizes.runs.program ≡ Ok program = sym summarizes.runs.program_is ∙ is in
     let same : summarizes.runs.program ≡ program = cc in
     let still : ¬ Rose 0 0 = λ risen. let r : 1 ≤ 0 = risen in omega arith in
-    generated_whole program (gathered []) (gathered summarizes.printed) (new_history generated_execution.file.levels) bus run
-    (subst (λ (p : Program). RunsProtected (terms_of generated_run p []) (gathered []) (gathered summarizes.printed) (new_history generated_execution.file.levels) (run_history bus) run) same summarizes.runs.runs)
+    generated_whole program (gathered []) (gathered summarizes.printed) (new_history generated_execution.file.geometry) bus run
+    (subst (λ (p : Program). RunsProtected (terms_of generated_run p []) (gathered []) (gathered summarizes.printed) (new_history generated_execution.file.geometry) (run_history bus) run) same summarizes.runs.runs)
     none still
 summary_whole number program run bus (Err Failed) files files' out out' summarizes is none quiet = absurd (quiet summarizes.written.1)
 summary_whole number program run bus (Err no_memory) files files' out out' summarizes is none quiet = inl refl

@@ -35,7 +35,7 @@ pub record EndedWithoutEvidence (P : Ending → Type 0) (run : RunRecord) (bus :
 -- The one false answer of the bus failed its check, was the last access, and ended the run as tampering of its place.
 pub record EndedTampered (asked : RunAsked) (run : RunRecord) (bus : RunBus) : Type 0 where
   pub no_evidence : run.evidence ≡ None
-  pub caught : IsCaught (device_tag asked.terms asked.execution.file.levels) run.used run.made (run_history bus)
+  pub caught : IsCaught (device_tag asked.terms asked.execution.file.geometry) run.used run.made (run_history bus)
       (λ place. run.ending ≡ Tampered place)
 
 -- Some line of the page has the last counter that the limit allows, which is not the default limit.
@@ -43,14 +43,14 @@ pub record EndedSpent (asked : RunAsked) (run : RunRecord) (bus : RunBus) : Type
   pub no_evidence : run.evidence ≡ None
   pub page : ℕ
   pub ended : run.ending ≡ Spent page
-  pub used_up : IsSpent (line_count asked.execution.file.levels) asked.terms.page_limit run.used page
+  pub used_up : IsSpent (line_count asked.execution.file.geometry) asked.terms.page_limit run.used page
   pub below : asked.terms.page_limit ≢ default_page_limit
 
 -- There is evidence of the first false answer, and neither the sink nor being out of memory ended the run.
 pub record EndedWithEvidence (asked : RunAsked) (run : RunRecord) (bus : RunBus) : Type 0 where
   pub evidence : Evidence
   pub there : run.evidence ≡ Some evidence
-  pub genuine : IsEvidence (device_tag asked.terms asked.execution.file.levels) run.made evidence
+  pub genuine : IsEvidence (device_tag asked.terms asked.execution.file.geometry) run.made evidence
   pub first_lie : IsOfFirstLie run.made (run_history bus) evidence
   pub written : run.ending ≢ WriteFault
   pub in_memory : run.ending ≢ NoMemory

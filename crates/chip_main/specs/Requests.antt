@@ -47,20 +47,20 @@ pub record RunsRequested (asked : RunAsked) (files files' : FilesState) (out out
   pub reads : ReadsRun asked files files' program script input
   pub bus_is : IsBusOf script bus
   pub runs : RunsProtected (terms_of asked program input) out out'
-      (new_history asked.execution.file.levels) (run_history bus) run
+      (new_history asked.execution.file.geometry) (run_history bus) run
 
 -- the program and the input that the request names ran on the plain machine, and gave this record
 abbrev pub PlainlyRuns : ExecutionAsked → FilesState → FilesState → SinkState → SinkState → PlainRecord → Type 0
 PlainlyRuns execution files files' out out' run =
     (program : Program) × (input : List ℕ) × ReadsExecution execution files files' program input
-    × RunsPlain (opening execution.file.levels program input) execution.steps out out' run
+    × RunsPlain (opening execution.file.geometry program input) execution.steps out out' run
 
 -- a text of the file's program was written, as far as the answer says
 pub record Writes (file : FileAsked) (text : Image → List ℕ) (files files' : FilesState) (out out' : SinkState) (telling : Telling) : Type 0 where
   pub program : Program
   pub takes : ReadsProgram file files files' program
   pub image : Image
-  pub is_image : IsImageOf (memory_size file.levels) program image
+  pub is_image : IsImageOf (memory_size file.geometry) program image
   pub written : IsWritten (text image) out out' telling
 
 -- the file is a report that the device of the request's key made, and what it says was written, as far as the answer

@@ -36,7 +36,7 @@ asked_input (to_bench number) = None
 
 -- the script is that of the file that a run names, and there is none where none is named
 abbrev pub IsAskedScript : FilesState → Asked → Option (List ScriptLine) → Type 0
-IsAskedScript files (to_run asked) script = IsScript files asked.execution.file.levels asked.script script
+IsAskedScript files (to_run asked) script = IsScript files asked.execution.file.geometry asked.script script
 IsAskedScript files (to_run_plain execution) script = script ≡ None
 IsAskedScript files (to_assemble file) script = script ≡ None
 IsAskedScript files (to_disassemble file) script = script ≡ None
@@ -71,7 +71,7 @@ pub record Faultless (asked : Asked) (old new : World) (done : Done) : Type 0 wh
 -- the status of the plain machine's run over the whole budget
 abbrev pub plain_status : ExecutionAsked → Program → List ℕ → Status
 plain_status execution program input =
-    ending_status (ending_at (plain (opening execution.file.levels program input) execution.steps) execution.steps)
+    ending_status (ending_at (plain (opening execution.file.geometry program input) execution.steps) execution.steps)
 
 -- The status that is due, or that of no memory; and of a run on protected memory, that of a page that was used up.
 abbrev pub whole_statuses : Asked → Program → List ℕ → List Status
@@ -94,5 +94,5 @@ verdict_status (Some Version) = Refused
 -- the run is the plain machine's over the whole budget, and has its status
 abbrev pub RanWhole : ExecutionAsked → Program → List ℕ → Done → Type 0
 RanWhole execution program input done = IsRunAnd done (λ run bus.
-    IsWhole (opening execution.file.levels program input) execution.steps run.retired run.ending
+    IsWhole (opening execution.file.geometry program input) execution.steps run.retired run.ending
     × (done.status ≡ code_of (ending_status run.ending)))

@@ -1,5 +1,6 @@
 // What is written of a program.
-ghost use Rattle.std.specs.Prelude.{◌≡◌, ◌≤◌, IfOk, string_bytes, OnOk};
+ghost use Rattle.std.specs.Prelude.{◌≡◌, ◌<◌, ◌≤◌, ◌^◌, IfOk, string_bytes, OnOk};
+ghost use Rattle.sec_base.specs.Segment.{segment_bytes};
 ghost use Rattle.sec_base.specs.Sink.{IsWritten};
 ghost use Rattle.chip_main.specs.Texts.{elf_file, measurement_line};
 
@@ -9,6 +10,7 @@ use std::alloc::{AllocError, Global};
 
 /// Writes a program's ELF file, as one piece.
 pub fn write_elf_file<O: Sink>(alloc: Global, image: &Image, out: &mut O) -> Result<(), SinkStop>
+    requires small { segment_bytes image.now.segments < 2 ^ 31 }
     ensures told { IsWritten (elf_file image.now) (O.state out.old) (O.state out.new) result }
     ensures faults { (O.state out.old).faults ≤ (O.state out.new).faults }
     ensures quiet { OnOk result ((O.state out.new).faults ≡ (O.state out.old).faults) }

@@ -39,27 +39,27 @@ use Rattle.chip_run.proofs.Closing.{ended_account, never_wanting, not_lasting, s
 pub record OfMemory (terms : Terms) (before after : BusHistory) (run : RunRecord) : Type 0 where
   pub stopped : Option MemStop
   pub carries : CarriesEnding stopped (Some run.ending)
-  pub inside : (line : ℕ) (counter : Counter) → Contains run.used (line, counter) → line < line_count terms.levels
-  pub paired : data_pairs run.made ≡ of_lines (line_count terms.levels) run.used
-  pub sealed : HoldsSealed terms.tag_of (line_count terms.levels) run.made run.used after.written
-  pub nodes : NodesAreMade terms.levels run.made after.written
-  pub holds_last : stopped ≢ Some no_memory → HoldsLast terms.tag_of (line_count terms.levels) run.made after.written
-  pub nodes_hold_last : stopped ≢ Some no_memory → NodesHoldLast terms.levels run.made after.written
-  pub rise : run.evidence ≡ None → CountersRise terms.levels terms.page_limit run.used stopped
-  pub made_nodes : run.evidence ≡ None → NodesSay terms.tag_of terms.levels run.used run.made
+  pub inside : (line : ℕ) (counter : Counter) → Contains run.used (line, counter) → line < line_count terms.geometry
+  pub paired : data_pairs run.made ≡ of_lines (line_count terms.geometry) run.used
+  pub sealed : HoldsSealed terms.tag_of (line_count terms.geometry) run.made run.used after.written
+  pub nodes : NodesAreMade terms.geometry run.made after.written
+  pub holds_last : stopped ≢ Some no_memory → HoldsLast terms.tag_of (line_count terms.geometry) run.made after.written
+  pub nodes_hold_last : stopped ≢ Some no_memory → NodesHoldLast terms.geometry run.made after.written
+  pub rise : run.evidence ≡ None → CountersRise terms.geometry terms.page_limit run.used stopped
+  pub made_nodes : run.evidence ≡ None → NodesSay terms.tag_of terms.geometry run.used run.made
   pub few : length run.used < 2 ^ 64
   pub apart : run.evidence ≡ None → ShareNoBlock terms.enc_key run.used
   pub accounted : IsAccounted terms.tag_of run.used run.made after stopped run.evidence
   pub accesses : WritesMessages before after (length run.made) (unwritten_at run.ending)
   pub reads : (place : Place) → RoseBy 0 (before.reads place) (after.reads place)
-  pub levels_are : after.levels ≡ terms.levels
+  pub geometry_are : after.geometry ≡ terms.geometry
   pub unread : run.evidence ≡ None → UnmadeAreUnread before run.made after
 
 -- The places of the lines, and of the pages' counter blocks, were read at least as often as the run turned over.
 abbrev pub ReadsTurnover : Terms → BusHistory → BusHistory → RunRecord → Type 0
 ReadsTurnover terms before after run =
-    Gain (line_count terms.levels) (λ line. before.reads (Line line)) (λ line. after.reads (Line line)) (turnover terms.start run.retired)
-    × Gain (page_count terms.levels) (λ page. before.reads (Node 0 page)) (λ page. after.reads (Node 0 page)) (page_turnover terms.start run.retired)
+    Gain (line_count terms.geometry) (λ line. before.reads (Line line)) (λ line. after.reads (Line line)) (turnover terms.start run.retired)
+    × Gain (page_count terms.geometry) (λ page. before.reads (Node 0 page)) (λ page. after.reads (Node 0 page)) (page_turnover terms.start run.retired)
 
 -- What the instructions came to, where a memory held them or stopped before the first one.
 pub record OfInstructions (terms : Terms) (printed : List ℕ) (before after : BusHistory) (run : RunRecord) : Type 0 where
@@ -67,7 +67,7 @@ pub record OfInstructions (terms : Terms) (printed : List ℕ) (before after : B
   pub follows : run.evidence ≡ None → Follows terms.start terms.budget run.retired run.ending printed
   pub cut_short : run.evidence ≡ None → run.ending ≡ WriteFault → length printed < length (plain terms.start (run.retired + 1)).output
   pub written_out : run.evidence ≡ None → ¬ IsMemoryEnding run.ending →
-      IsWrittenOut terms.enc_key (line_count terms.levels) run.made (plain terms.start run.retired).state.memory
+      IsWrittenOut terms.enc_key (line_count terms.geometry) run.made (plain terms.start run.retired).state.memory
   pub out_of_steps : run.evidence ≡ None → ¬ IsMemoryEnding run.ending → ((run.ending ≡ OutOfSteps)
       ↔ ((run.retired ≡ terms.budget) × ((plain terms.start terms.budget).exit ≡ None)))
   pub turned : run.evidence ≡ None → ReadsTurnover terms before after run
@@ -121,13 +121,13 @@ module _ (terms : Terms) (printed : List ℕ) (before after : BusHistory) (run :
   account : AccountsForLies terms.tag_of run.used run.made after (λ place. run.ending ≡ Tampered place) run.evidence
   account = ended_account terms.tag_of run.used run.made after memory.stopped run.ending run.evidence memory.carries memory.accounted.account
 
-  spent_page : run.evidence ≡ None → (page : ℕ) → run.ending ≡ Spent page → IsSpent (line_count terms.levels) terms.page_limit run.used page
+  spent_page : run.evidence ≡ None → (page : ℕ) → run.ending ≡ Spent page → IsSpent (line_count terms.geometry) terms.page_limit run.used page
   spent_page quiet page is = (memory.rise quiet).spent page (stopped_spent memory.stopped run.ending page memory.carries is)
 
-  paged : run.evidence ≡ None → ¬ EndsAnywhere run.ending → ArePaged (line_count terms.levels) run.used
+  paged : run.evidence ≡ None → ¬ EndsAnywhere run.ending → ArePaged (line_count terms.geometry) run.used
   paged quiet whole = (memory.rise quiet).paged (not_lasting memory.stopped run.ending memory.carries whole)
 
-  keeps_lists : KeepsLists (λ line. line < line_count terms.levels) terms before after run
+  keeps_lists : KeepsLists (λ line. line < line_count terms.geometry) terms before after run
   keeps_lists = record {
     inside = memory.inside;
     few = memory.few;
@@ -138,7 +138,7 @@ module _ (terms : Terms) (printed : List ℕ) (before after : BusHistory) (run :
     nodes_hold_last = λ some. memory.nodes_hold_last (never_wanting memory.stopped run.ending memory.carries some);
     accesses = memory.accesses;
     reads = memory.reads;
-    levels_are = memory.levels_are;
+    geometry_are = memory.geometry_are;
   }
 
   follows_plain : run.evidence ≡ None → FollowsPlain terms printed after run
@@ -161,7 +161,7 @@ module _ (terms : Terms) (printed : List ℕ) (before after : BusHistory) (run :
     unskipped = (memory.rise quiet).unskipped;
     paged = paged quiet;
     unspent = λ default page is.
-        never_spent (line_count terms.levels) terms.page_limit run.used page (paged quiet (spent_whole run.ending page is)) memory.few default (spent_page quiet page is);
+        never_spent (line_count terms.geometry) terms.page_limit run.used page (paged quiet (spent_whole run.ending page is)) memory.few default (spent_page quiet page is);
     made_nodes = memory.made_nodes quiet;
   }
 
@@ -171,7 +171,7 @@ module _ (terms : Terms) (printed : List ℕ) (before after : BusHistory) (run :
     first_lie = account.shown evidence is;
   }
 
-  pub ran_protected : RanProtected (λ line. line < line_count terms.levels) terms printed before after run
+  pub ran_protected : RanProtected (λ line. line < line_count terms.geometry) terms printed before after run
   ran_protected = record {
     budget = instructions.budget;
     lists = keeps_lists;

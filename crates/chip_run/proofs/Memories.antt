@@ -2,7 +2,7 @@
 use Rattle.std.proofs.Common.{◌≡◌, ◌≢◌, inl, ℕ, ◌^◌, ◌<◌, List, [], ◌++◌, length, Option, Some, None, IfSome, Contains, refl, sym, ap, ◌∙◌, subst, arith}
 use Rattle.sec_base.specs.Count.{RoseBy}
 use Rattle.sec_base.specs.Evidence.{IsEvidence}
-use Rattle.sec_base.specs.Geometry.{IsNode, line_count}
+use Rattle.sec_base.specs.Geometry.{GeometryView, IsNode, line_count}
 use Rattle.sec_base.specs.LastMessage.{data_pairs, last_at, last_node}
 use Rattle.sec_base.specs.declared.counter.Counter.{Counter}
 use Rattle.sec_base.specs.declared.ending.Ending.{Ending}
@@ -25,7 +25,7 @@ use Rattle.pad_stream.specs.PadBlocks.{ShareNoBlock}
 use Rattle.pad_stream.specs.Pads.{of_lines}
 use Rattle.bonsai_tree.specs.Tree.{NodesAreMade, UnmadeAreUnread}
 use Rattle.page_reencrypt.specs.Contents.{AreUnskipped, AreWithin, HoldsSealed, NodesSay, contents_of}
-use Rattle.page_reencrypt.specs.SealedLines.{AccountsForAll, AreNew, AreProtected, CountersRise, IsLineOf, IsQuiet, Moves, SealedLinesView, contents, enc_key, evidence, levels, lines_of, made, used}
+use Rattle.page_reencrypt.specs.SealedLines.{AccountsForAll, AreNew, AreProtected, CountersRise, IsLineOf, IsQuiet, Moves, SealedLinesView, contents, enc_key, evidence, geometry, lines_of, made, used}
 use Rattle.cache_set.specs.declared.way.Way.{Way}
 use Rattle.line_cache.specs.LineCache.{contents_over}
 use Rattle.chip_run.specs.Report.{ReportTerms}
@@ -64,33 +64,33 @@ nothing_unskipped : (lines : ℕ) → AreUnskipped lines []
 unfolding last_at
 nothing_unskipped lines = record { reached = λ line inside. omega arith }
 
-nothing_sealed : (tag_of : Message → List ℕ) (levels : ℕ) (bus : BusHistory) → bus.levels ≡ levels → NothingWritten bus →
-    HoldsSealed tag_of (line_count levels) [] [] bus.written
-nothing_sealed tag_of levels bus as_many empty = record {
-  holds = λ line inside. inl (empty.zeros (line_place line) (subst (λ (l : ℕ). line < line_count l) (sym as_many) inside));
+nothing_sealed : (tag_of : Message → List ℕ) (geometry : GeometryView) (bus : BusHistory) → bus.geometry ≡ geometry → NothingWritten bus →
+    HoldsSealed tag_of (line_count geometry) [] [] bus.written
+nothing_sealed tag_of geometry bus as_many empty = record {
+  holds = λ line inside. inl (empty.zeros (line_place line) (subst (λ (l : GeometryView). line < line_count l) (sym as_many) inside));
 }
 
-no_nodes : (levels : ℕ) (bus : BusHistory) → bus.levels ≡ levels → NothingWritten bus → NodesAreMade levels [] bus.written
-no_nodes levels bus as_many empty = record {
-  holds = λ level index inside. inl (empty.zeros (Node level index) (subst (λ (l : ℕ). IsNode l level index) (sym as_many) inside));
+no_nodes : (geometry : GeometryView) (bus : BusHistory) → bus.geometry ≡ geometry → NothingWritten bus → NodesAreMade geometry [] bus.written
+no_nodes geometry bus as_many empty = record {
+  holds = λ level index inside. inl (empty.zeros (Node level index) (subst (λ (l : GeometryView). IsNode l level index) (sym as_many) inside));
 }
 
 nothing_paired : (lines : ℕ) → data_pairs [] ≡ of_lines lines []
 unfolding data_pairs last_at
 nothing_paired lines = refl
 
-nothing_risen : (levels limit : ℕ) → CountersRise levels limit [] (Some no_memory)
-nothing_risen levels limit = record {
+nothing_risen : (geometry : GeometryView) (limit : ℕ) → CountersRise geometry limit [] (Some no_memory)
+nothing_risen geometry limit = record {
   rising = rising_nothing;
-  within = nothing_within (line_count levels) limit;
-  unskipped = nothing_unskipped (line_count levels);
+  within = nothing_within (line_count geometry) limit;
+  unskipped = nothing_unskipped (line_count geometry);
   paged = λ going. absurd (cc);
   spent = λ page is. absurd (cc);
 }
 
-nothing_said : (tag_of : Message → List ℕ) (levels : ℕ) → NodesSay tag_of levels [] []
-nothing_said tag_of levels = record {
-  slots = slots_none tag_of levels;
+nothing_said : (tag_of : Message → List ℕ) (geometry : GeometryView) → NodesSay tag_of geometry [] []
+nothing_said tag_of geometry = record {
+  slots = slots_none tag_of geometry;
   blocks = record { said = λ page line block listed of_page. absurd (omega (arith, listed.1)) };
 }
 
@@ -99,7 +99,7 @@ abbrev run_of : ℕ → Ending → Option Evidence → List Message → List (�
 run_of retired ending evidence made used report =
     record { retired = retired; ending = ending; evidence = evidence; made = made; used = used; report = report }
 
-pub no_memory_run : (terms : Terms) (bus : BusHistory) (run : RunRecord) → bus.levels ≡ terms.levels → bus.lies ≡ 0 → NothingWritten bus →
+pub no_memory_run : (terms : Terms) (bus : BusHistory) (run : RunRecord) → bus.geometry ≡ terms.geometry → bus.lies ≡ 0 → NothingWritten bus →
     run.ending ≡ NoMemory → run.made ≡ [] → run.used ≡ [] → run.evidence ≡ None → OfMemory terms bus bus run
 no_memory_run terms bus run as_many honest empty ended none_made none_used none =
     let same : run_of run.retired NoMemory None [] [] run.report ≡ run =
@@ -111,19 +111,19 @@ no_memory_run terms bus run as_many honest empty ended none_made none_used none 
       stopped = Some no_memory;
       carries = refl;
       inside = λ line counter listed. absurd (omega (arith, listed.1));
-      paired = nothing_paired (line_count terms.levels);
-      sealed = nothing_sealed terms.tag_of terms.levels bus as_many empty;
-      nodes = no_nodes terms.levels bus as_many empty;
+      paired = nothing_paired (line_count terms.geometry);
+      sealed = nothing_sealed terms.tag_of terms.geometry bus as_many empty;
+      nodes = no_nodes terms.geometry bus as_many empty;
       holds_last = λ some. absurd (some refl);
       nodes_hold_last = λ some. absurd (some refl);
-      rise = λ quiet. nothing_risen terms.levels terms.page_limit;
-      made_nodes = λ quiet. nothing_said terms.tag_of terms.levels;
+      rise = λ quiet. nothing_risen terms.geometry terms.page_limit;
+      made_nodes = λ quiet. nothing_said terms.tag_of terms.geometry;
       few = omega arith;
       apart = λ quiet. record { apart = λ first second line other counter later block another here there low high same. absurd (cc) };
       accounted = begins_accounted terms.tag_of [] [] bus (Some no_memory) None honest refl (λ place is. cc);
       accesses = record { writes = 0; counted = counted_not bus; at_most = omega arith; at_least = omega arith };
       reads = λ place. omega arith;
-      levels_are = as_many;
+      geometry_are = as_many;
       unread = λ quiet level index none. refl;
     })
 
@@ -146,31 +146,31 @@ all_counted before after made more stopped ending messages all carries =
     }
 
 -- the lines outside, in other words for their parts
-abbrev in_words : {B T : Type 0} → SealedLinesView B T → B → T → ℕ → List ℕ → ℕ → List Message → Option Evidence → List (ℕ × Counter) → SealedLinesView B T
-in_words lines bus tagger depth key limit made evidence used = record {
+abbrev in_words : {B T : Type 0} → SealedLinesView B T → B → T → GeometryView → List ℕ → ℕ → List Message → Option Evidence → List (ℕ × Counter) → SealedLinesView B T
+in_words lines bus tagger shape key limit made evidence used = record {
   bus = bus;
-  engine = record { tagger = tagger; levels = depth; made = made; evidence = evidence; room = lines.engine.room };
+  engine = record { tagger = tagger; geometry = shape; made = made; evidence = evidence; room = lines.engine.room };
   pads = record { key = key; used = used; room = lines.pads.room };
   counters = lines.counters;
   limit = limit;
   stopped = lines.stopped;
 }
 
-same_lines : {B T : Type 0} (lines : SealedLinesView B T) (bus : B) (tagger : T) (depth : ℕ) (key : List ℕ) (limit : ℕ) (made' : List Message) (evidence' : Option Evidence) (used' : List (ℕ × Counter)) →
-    bus ≡ lines.bus → lines.engine.tagger ≡ tagger → levels lines ≡ depth → enc_key lines ≡ key → lines.limit ≡ limit → made' ≡ made lines → evidence' ≡ evidence lines → used' ≡ used lines →
-    lines ≡ in_words lines bus tagger depth key limit made' evidence' used'
-same_lines {B} {T} lines bus tagger depth key limit made' evidence' used' bus_is tagger_is depth_is key_is limit_is made_is evidence_is used_is =
-    ap (λ (b : B). in_words lines b lines.engine.tagger (levels lines) (enc_key lines) lines.limit (made lines) (evidence lines) (used lines)) (sym bus_is)
-    ∙ ap (λ (t : T). in_words lines bus t (levels lines) (enc_key lines) lines.limit (made lines) (evidence lines) (used lines)) tagger_is
-    ∙ ap (λ (l : ℕ). in_words lines bus tagger l (enc_key lines) lines.limit (made lines) (evidence lines) (used lines)) depth_is
-    ∙ ap (λ (k : List ℕ). in_words lines bus tagger depth k lines.limit (made lines) (evidence lines) (used lines)) key_is
-    ∙ ap (λ (n : ℕ). in_words lines bus tagger depth key n (made lines) (evidence lines) (used lines)) limit_is
-    ∙ ap (λ (xs : List Message). in_words lines bus tagger depth key limit xs (evidence lines) (used lines)) (sym made_is)
-    ∙ ap (λ (e : Option Evidence). in_words lines bus tagger depth key limit made' e (used lines)) (sym evidence_is)
-    ∙ ap (λ (xs : List (ℕ × Counter)). in_words lines bus tagger depth key limit made' evidence' xs) (sym used_is)
+same_lines : {B T : Type 0} (lines : SealedLinesView B T) (bus : B) (tagger : T) (shape : GeometryView) (key : List ℕ) (limit : ℕ) (made' : List Message) (evidence' : Option Evidence) (used' : List (ℕ × Counter)) →
+    bus ≡ lines.bus → lines.engine.tagger ≡ tagger → geometry lines ≡ shape → enc_key lines ≡ key → lines.limit ≡ limit → made' ≡ made lines → evidence' ≡ evidence lines → used' ≡ used lines →
+    lines ≡ in_words lines bus tagger shape key limit made' evidence' used'
+same_lines {B} {T} lines bus tagger shape key limit made' evidence' used' bus_is tagger_is geometry_is key_is limit_is made_is evidence_is used_is =
+    ap (λ (b : B). in_words lines b lines.engine.tagger (geometry lines) (enc_key lines) lines.limit (made lines) (evidence lines) (used lines)) (sym bus_is)
+    ∙ ap (λ (t : T). in_words lines bus t (geometry lines) (enc_key lines) lines.limit (made lines) (evidence lines) (used lines)) tagger_is
+    ∙ ap (λ (l : GeometryView). in_words lines bus tagger l (enc_key lines) lines.limit (made lines) (evidence lines) (used lines)) geometry_is
+    ∙ ap (λ (k : List ℕ). in_words lines bus tagger shape k lines.limit (made lines) (evidence lines) (used lines)) key_is
+    ∙ ap (λ (n : ℕ). in_words lines bus tagger shape key n (made lines) (evidence lines) (used lines)) limit_is
+    ∙ ap (λ (xs : List Message). in_words lines bus tagger shape key limit xs (evidence lines) (used lines)) (sym made_is)
+    ∙ ap (λ (e : Option Evidence). in_words lines bus tagger shape key limit made' e (used lines)) (sym evidence_is)
+    ∙ ap (λ (xs : List (ℕ × Counter)). in_words lines bus tagger shape key limit made' evidence' xs) (sym used_is)
 
-module _ {B T : Type 0} (d n : T → List ℕ → List ℕ) (history : B → BusHistory) (bus_moved : B → B → Type 0) (bus : B) (tagger : T) (key : List ℕ) (depth limit : ℕ)
-    (booted lines : SealedLinesView B T) (new : AreNew bus tagger key depth limit booted) (moves : Moves history bus_moved (tags_of d n) (IsLineOf booted) booted lines) where
+module _ {B T : Type 0} (d n : T → List ℕ → List ℕ) (history : B → BusHistory) (bus_moved : B → B → Type 0) (bus : B) (tagger : T) (key : List ℕ) (shape : GeometryView) (limit : ℕ)
+    (booted lines : SealedLinesView B T) (new : AreNew bus tagger key shape limit booted) (moves : Moves history bus_moved (tags_of d n) (IsLineOf booted) booted lines) where
   new_accounted : (history bus).lies ≡ 0 → AccountsForAll (tags_of d n) history booted
   new_accounted honest =
       begins_accounted (tags_of d n booted.engine) (used booted) (made booted) (history booted.bus) booted.stopped (evidence booted)
@@ -181,22 +181,22 @@ module _ {B T : Type 0} (d n : T → List ℕ → List ℕ) (history : B → Bus
       subst (λ (b : B). RoseBy 0 ((history b).reads place) ((history lines.bus).reads place)) new.bus_is (moves.step.reads place)
 
   -- what it encrypted is of lines of the memory
-  run_inside : (line : ℕ) (counter : Counter) → Contains (used lines) (line, counter) → line < line_count depth
+  run_inside : (line : ℕ) (counter : Counter) → Contains (used lines) (line, counter) → line < line_count shape
   run_inside line counter listed =
       let entries : used lines ≡ moves.entries = moves.used_more ∙ ap (λ (used : List (ℕ × Counter)). used ++ moves.entries) new.unused in
-      subst (λ (levels : ℕ). line < line_count levels) new.depth_is
+      subst (λ (geometry : GeometryView). line < line_count geometry) new.geometry_is
       (moves.entries_allowed line counter (subst (λ (used : List (ℕ × Counter)). Contains used (line, counter)) entries listed))
 
   pub run_memory : (start : Machine) (budget : ℕ) (report : ReportTerms) (closed : B) (run : RunRecord) → (history bus).lies ≡ 0 → AreProtected d n history lines →
       run.made ≡ made lines → run.used ≡ used lines → length run.used < 2 ^ 64 →
       (IsQuiet lines → ShareNoBlock (enc_key lines) run.used) → run.evidence ≡ evidence lines → closed ≡ lines.bus → CarriesEnding lines.stopped (Some run.ending) →
       (IsQuiet lines → UnmadeAreUnread (history booted.bus) (made lines) (history lines.bus)) →
-      OfMemory (record { start = start; budget = budget; levels = depth; page_limit = limit; tag_of = engine_tag (d tagger) (n tagger) depth; enc_key = key; report = report })
+      OfMemory (record { start = start; budget = budget; geometry = shape; page_limit = limit; tag_of = engine_tag (d tagger) (n tagger) shape; enc_key = key; report = report })
       (history bus) (history closed) run
   run_memory start budget report closed run honest kept made_is used_is few apart evidence_is bus_is carries unread =
-      let words = in_words lines closed tagger depth key limit run.made run.evidence run.used in
+      let words = in_words lines closed tagger shape key limit run.made run.evidence run.used in
       let same : lines ≡ words =
-      same_lines lines closed tagger depth key limit run.made run.evidence run.used bus_is (moves.step.tagger ∙ new.tagger_is) (moves.step.levels ∙ new.depth_is)
+      same_lines lines closed tagger shape key limit run.made run.evidence run.used bus_is (moves.step.tagger ∙ new.tagger_is) (moves.step.geometry ∙ new.geometry_is)
       (moves.key ∙ new.key_is) (moves.limit ∙ new.limit_is) made_is evidence_is used_is in
       let protected : AreProtected d n history words = subst (λ (m : SealedLinesView B T). AreProtected d n history m) same kept in
       record {
@@ -219,7 +219,7 @@ module _ {B T : Type 0} (d n : T → List ℕ → List ℕ) (history : B → Bus
             (all_counted (history booted.bus) (history lines.bus) run.made moves.step.more lines.stopped run.ending moves.accesses
             (made_is ∙ moves.step.made ∙ ap (λ (made : List Message). made ++ moves.step.more) new.unmade) carries));
         reads = λ place. subst (λ (b : B). RoseBy 0 ((history bus).reads place) ((history b).reads place)) (sym bus_is) (run_reads place);
-        levels_are = protected.always.consistent.bus_levels;
+        geometry_are = protected.always.consistent.bus_geometry;
         unread = λ quiet level index none.
             ap (λ (b : B). (history b).reads (Node level index)) bus_is
             ∙ unread (sym evidence_is ∙ quiet) level index (ap (last_node level index) (sym made_is) ∙ none)
@@ -228,8 +228,8 @@ module _ {B T : Type 0} (d n : T → List ℕ → List ℕ) (history : B → Bus
 
   -- all its bytes, in the words of the run
   pub run_contents : (run : RunRecord) (ways : List (List Way)) → run.made ≡ made lines →
-      contents_over (contents_of key (line_count depth) run.made) (line_count depth) ways ≡ contents_over (contents lines) (lines_of lines) ways
+      contents_over (contents_of key (line_count shape) run.made) (line_count shape) ways ≡ contents_over (contents lines) (lines_of lines) ways
   run_contents run ways made_is =
-      ap (λ (made : List Message). contents_over (contents_of key (line_count depth) made) (line_count depth) ways) made_is
-      ∙ ap (λ (levels : ℕ). contents_over (contents_of key (line_count levels) (made lines)) (line_count levels) ways) (sym (moves.step.levels ∙ new.depth_is))
-      ∙ ap (λ (k : List ℕ). contents_over (contents_of k (line_count (levels lines)) (made lines)) (lines_of lines) ways) (sym (moves.key ∙ new.key_is))
+      ap (λ (made : List Message). contents_over (contents_of key (line_count shape) made) (line_count shape) ways) made_is
+      ∙ ap (λ (geometry : GeometryView). contents_over (contents_of key (line_count geometry) (made lines)) (line_count geometry) ways) (sym (moves.step.geometry ∙ new.geometry_is))
+      ∙ ap (λ (k : List ℕ). contents_over (contents_of k (line_count (geometry lines)) (made lines)) (lines_of lines) ways) (sym (moves.key ∙ new.key_is))

@@ -31,7 +31,7 @@ storing_stopped terms out before after run entry size segments input stop begins
 
 -- no memory was found for its memory
 pub boot_refused : (terms : Terms) (out : SinkState) (before after : BusHistory) (run : RunRecord) (entry size : ℕ) (segments : List Segment) (input : List ℕ) →
-    terms.start ≡ opening_of entry size segments input → before.levels ≡ terms.levels → before.lies ≡ 0 → NothingWritten before → after ≡ before →
+    terms.start ≡ opening_of entry size segments input → before.geometry ≡ terms.geometry → before.lies ≡ 0 → NothingWritten before → after ≡ before →
     run.retired ≡ 0 → run.ending ≡ NoMemory → run.made ≡ [] → run.used ≡ [] → run.evidence ≡ None → run.report ≡ None →
     RunsProtected terms out out before after run
 boot_refused terms out before after run entry size segments input begins as_many honest empty same none ended none_made none_used quiet unsigned =

@@ -39,13 +39,13 @@ module _ {B T : Type 0} (d n : T → List ℕ → List ℕ) (history : B → Bus
       subst (λ (tag_of : Message → List ℕ). OfMemory (record {
         start = terms.start;
         budget = terms.budget;
-        levels = terms.levels;
+        geometry = terms.geometry;
         page_limit = terms.page_limit;
         tag_of = tag_of;
         enc_key = terms.enc_key;
         report = terms.report;
       }) (history bus) (history closed) run) (sym stored.tags)
-      (run_memory d n history bus_moved bus tagger terms.enc_key terms.levels terms.page_limit stored.booted.lines last.lines stored.new moved.moves
+      (run_memory d n history bus_moved bus tagger terms.enc_key terms.geometry terms.page_limit stored.booted.lines last.lines stored.new moved.moves
       terms.start terms.budget terms.report closed run honest out.protected out.made_is out.used_is out.few out.apart out.evidence_is out.bus_is carries moved.unread)
 
   -- its bus
@@ -55,10 +55,10 @@ module _ {B T : Type 0} (d n : T → List ℕ → List ℕ) (history : B → Bus
       subst (λ (b : B). bus_moved bus b) (sym is) (subst (λ (b : B). bus_moved b last.lines.bus) stored.new.bus_is moves.bus)
 
   -- few lines and counter blocks have copies in it, and what stands outside fits them
-  stored_booted : (memory : SecureRamView B T) → HasStored d n history bus_moved bus tagger terms memory → IsBooted history bus_moved (tags_of d n) terms.levels memory
+  stored_booted : (memory : SecureRamView B T) → HasStored d n history bus_moved bus tagger terms memory → IsBooted history bus_moved (tags_of d n) terms.geometry memory
   stored_booted memory stored =
       record {
-        levels_are = stored.stored.moves.step.levels ∙ stored.new.depth_is;
+        geometry_are = stored.stored.moves.step.geometry ∙ stored.new.geometry_is;
         few = few_begun most_held (held_lines stored.booted) (held_lines memory) (held_lines memory) stored.none_held stored.stored.few refl;
         few_blocks = few_begun most_blocks (cached_pages stored.booted) (cached_pages memory) (cached_pages memory) stored.none_cached stored.stored.copies.few_blocks refl;
         fits = stored.stored.fits (λ going quiet. stored.fits);
@@ -94,25 +94,25 @@ module _ {B T : Type 0} (d n : T → List ℕ → List ℕ) (history : B → Bus
     turned quiet =
         let sound = sound_to_end quiet in
         let there = begun_there sound in
-        run_turned history bus_moved (tags_of d n) bus_unmoved bus_moved_on terms.levels went.first.retired now.retired run.retired terms.start bus closed
+        run_turned history bus_moved (tags_of d n) bus_unmoved bus_moved_on terms.geometry went.first.retired now.retired run.retired terms.start bus closed
         went.first.memory now.memory went.ended.moved.lines went.ended.moved.moved went.begun.none_retired
         (begins_with terms.start _ went.first.retired there went.begun.none_retired)
         (stored_booted went.first.memory went.begun.stored) sound (went.ended.trail sound terms.start [] there) retired_is
-        (run_reads d n history bus_moved bus tagger terms.enc_key terms.levels terms.page_limit went.begun.stored.booted.lines went.first.memory.lines
+        (run_reads d n history bus_moved bus tagger terms.enc_key terms.geometry terms.page_limit went.begun.stored.booted.lines went.first.memory.lines
         went.begun.stored.new went.begun.stored.stored.moves) out.bus_is
 
     instructions : OfInstructions terms printed (history bus) (history closed) run
     instructions =
         ran_instructions terms printed (history bus) (history closed) run now.retired now.budget ending now.memory.ways (contents now.memory) retired_is ending_is
         (went.ended.budget ∙ went.begun.budget)
-        (run_contents d n history bus_moved bus tagger terms.enc_key terms.levels terms.page_limit went.begun.stored.booted.lines now.memory.lines
+        (run_contents d n history bus_moved bus tagger terms.enc_key terms.geometry terms.page_limit went.begun.stored.booted.lines now.memory.lines
         went.begun.stored.new ran_moved.moves run now.memory.ways out.made_is)
         out.few_held went.ended.within went.ended.budget_used went.ended.early follows turned
 
     carries : CarriesEnding (stopped now.memory) (Some run.ending)
     carries = subst (λ (e : Ending). CarriesEnding (stopped now.memory) (Some e)) (sym ending_is) went.ended.carries
 
-    pub ran : (history bus).lies ≡ 0 → RanProtected (λ line. line < line_count terms.levels) terms printed (history bus) (history closed) run
+    pub ran : (history bus).lies ≡ 0 → RanProtected (λ line. line < line_count terms.geometry) terms printed (history bus) (history closed) run
     ran honest =
         ran_protected terms printed (history bus) (history closed) run
         (stored_memory (went.begun.stored.lines ++ went.ended.moved.lines) went.first.memory now.memory closed run went.begun.stored ran_moved out honest carries) instructions

@@ -2,7 +2,7 @@
 use Rattle.std.proofs.Common.{◌≡◌, ◌≢◌, ◌+◌, ◌*◌, ◌<◌, ◌≤◌, ℕ, zero, suc, List, [], ◌++◌, length, replicate, None, Contains, refl, sym, ap, ◌∙◌, subst, arith}
 use Rattle.std.proofs.lemmas.List.{replicate-append-replicate}
 use Rattle.sec_base.specs.Count.{RoseBy}
-use Rattle.sec_base.specs.Geometry.{line_count, memory_size, page_count, page_of}
+use Rattle.sec_base.specs.Geometry.{GeometryView, line_count, memory_size, page_count, page_of}
 use Rattle.sec_base.specs.LastMessage.{last_at, last_data}
 use Rattle.sec_base.specs.Lines.{joined_lines, line_at}
 use Rattle.sec_base.specs.Sink.{SinkState}
@@ -53,14 +53,14 @@ joined_zeros f (suc lines) zeros =
 none_listed : (line : ℕ) → Contains [] line → ⊥
 none_listed line there = omega (arith, there.1)
 
-pub opening_zeros : (key : List ℕ) (levels depth size : ℕ) (made : List Message) (ways : List (List Way)) → made ≡ [] → levels ≡ depth → size ≡ memory_size depth → places ways ≡ [] →
-    contents_over (contents_of key (line_count levels) made) (line_count levels) ways ≡ replicate size 0
-opening_zeros key levels depth size made ways none same as_large unheld =
-    let long : 64 * line_count depth ≡ size = omega arith in
-    over_nothing (contents_of key (line_count levels) made) (line_count levels) ways (length-contents_of key (line_count levels) made)
+pub opening_zeros : (key : List ℕ) (geometry : GeometryView) (shape : GeometryView) (size : ℕ) (made : List Message) (ways : List (List Way)) → made ≡ [] → geometry ≡ shape → size ≡ memory_size shape → places ways ≡ [] →
+    contents_over (contents_of key (line_count geometry) made) (line_count geometry) ways ≡ replicate size 0
+opening_zeros key geometry shape size made ways none same as_large unheld =
+    let long : 64 * line_count shape ≡ size = omega arith in
+    over_nothing (contents_of key (line_count geometry) made) (line_count geometry) ways (length-contents_of key (line_count geometry) made)
     (λ line. unheld_none ways line (λ there. none_listed line (subst (λ (held : List ℕ). Contains held line) unheld there)))
-    ∙ joined_zeros (line_bytes key made) (line_count levels) (λ line. ap (bytes_of key line) (untagged made line none))
-    ∙ ap (λ (n : ℕ). replicate (64 * line_count n) 0) same ∙ ap (λ (n : ℕ). replicate n 0) long
+    ∙ joined_zeros (line_bytes key made) (line_count geometry) (λ line. ap (bytes_of key line) (untagged made line none))
+    ∙ ap (λ (n : GeometryView). replicate (64 * line_count n) 0) same ∙ ap (λ (n : ℕ). replicate n 0) long
 
 -- All lines that are not held are written out where the memory as a whole is that of the messages with the held copies laid
 -- over.
@@ -110,9 +110,9 @@ stopped_instructions terms before after run entry size segments input stop begin
       written_out = λ quiet going. absurd (going stopped);
       out_of_steps = λ quiet going. absurd (going stopped);
       turned = λ quiet. (
-        nothing_turned (λ line. line) 129 terms.start (line_count terms.levels) run.retired (λ line. before.reads (Line line)) (λ line. after.reads (Line line)) none
+        nothing_turned (λ line. line) 129 terms.start (line_count terms.geometry) run.retired (λ line. before.reads (Line line)) (λ line. after.reads (Line line)) none
             (λ line. reads (Line line)),
-        nothing_turned page_of 161 terms.start (page_count terms.levels) run.retired (λ page. before.reads (Node 0 page)) (λ page. after.reads (Node 0 page)) none
+        nothing_turned page_of 161 terms.start (page_count terms.geometry) run.retired (λ page. before.reads (Node 0 page)) (λ page. after.reads (Node 0 page)) none
             (λ page. reads (Node 0 page)),
       );
     }
@@ -127,7 +127,7 @@ stopped_sink out ending stop ended = record {
 
 -- A run of some instructions, which an execution that may do so many ended so
 pub ran_instructions : (terms : Terms) (printed : List ℕ) (before after : BusHistory) (run : RunRecord) (finished allowance : ℕ) (ended : Ending) (ways : List (List Way)) (memory : List ℕ) →
-    run.retired ≡ finished → run.ending ≡ ended → allowance ≡ terms.budget → contents_over (contents_of terms.enc_key (line_count terms.levels) run.made) (line_count terms.levels) ways ≡ memory →
+    run.retired ≡ finished → run.ending ≡ ended → allowance ≡ terms.budget → contents_over (contents_of terms.enc_key (line_count terms.geometry) run.made) (line_count terms.geometry) ways ≡ memory →
     length (places ways) ≤ most_left → finished ≤ allowance → (ended ≡ OutOfSteps → finished ≡ allowance) → (IsStop ended → finished < allowance) →
     (run.evidence ≡ None → FollowsWith terms.start terms.budget run.retired run.ending memory printed) →
     (run.evidence ≡ None → ReadsTurnover terms before after run) → OfInstructions terms printed before after run
@@ -142,7 +142,7 @@ ran_instructions terms printed before after run finished allowance ended ways me
       follows = λ quiet. (follows quiet).follows;
       cut_short = λ quiet. (follows quiet).cut_short;
       written_out = λ quiet going.
-          written_out terms.enc_key (line_count terms.levels) run.made ways (plain terms.start run.retired).state.memory
+          written_out terms.enc_key (line_count terms.geometry) run.made ways (plain terms.start run.retired).state.memory
           (outside ∙ (follows quiet).leaves going) few;
       out_of_steps = λ quiet going.
           budget_ends terms.start terms.budget run.retired run.ending printed (follows quiet).follows in_time going;

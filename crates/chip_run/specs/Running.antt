@@ -24,9 +24,9 @@ protected_by core data_tag node_tag history bus_moved =
 -- A memory was booted over a new bus, with the tags of the run, and stores to these lines were made.
 pub record HasStored {B T : Type 0} (data_tag node_tag : T → List ℕ → List ℕ) (history : B → BusHistory) (bus_moved : B → B → Type 0)
     (bus : B) (tagger : T) (terms : Terms) (memory : SecureRamView B T) : Type 0 where
-  pub tags : terms.tag_of ≡ engine_tag (data_tag tagger) (node_tag tagger) terms.levels
+  pub tags : terms.tag_of ≡ engine_tag (data_tag tagger) (node_tag tagger) terms.geometry
   pub booted : SecureRamView B T
-  pub new : AreNew bus tagger terms.enc_key terms.levels terms.page_limit booted.lines
+  pub new : AreNew bus tagger terms.enc_key terms.geometry terms.page_limit booted.lines
   pub fits : LinesFit data_tag node_tag history booted.lines
   pub none_held : held_lines booted ≡ []
   pub none_cached : cached_pages booted ≡ []

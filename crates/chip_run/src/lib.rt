@@ -36,7 +36,7 @@ pub fn run<B: Bus, T: Tagger, S: Sink>(
     out: &mut S,
 ) -> (RunRecord, B)
     requires size { image.now.size ≡ memory_size setup.now.geometry }
-    requires levels { (B.history bus).levels ≡ setup.now.geometry }
+    requires geometry { (B.history bus).geometry ≡ setup.now.geometry }
     requires no_lie { (B.history bus).lies ≡ 0 }
     requires nothing_written { NothingWritten (B.history bus) }
 

@@ -47,7 +47,7 @@ impl<'a, B: Bus, T: Tagger> Running<'a, Core, B, T> {
         bus: B,
     ) -> Result<Running<'a, Core, B, T>, BootFailure<B, T>>
         requires size { image.now.size ≡ memory_size setup.now.geometry }
-        requires levels { (B.history bus).levels ≡ setup.now.geometry }
+        requires geometry { (B.history bus).geometry ≡ setup.now.geometry }
         requires nothing_written { NothingWritten (B.history bus) }
         ensures begun { IfOk result (λ running. HasRun (λ core. core) T.data_tag_of T.node_tag_of B.history B.moved bus tagger
             (run_terms image.now input.now setup.now (engine_tag (T.data_tag_of tagger) (T.node_tag_of tagger) setup.now.geometry))

@@ -133,7 +133,7 @@ program_there : (s : Shape) (words : List Text) → IsFaultless s words → s.su
 program_there s words clean negates in_file own_file in_levels own_levels =
     let file = required_passed s words file_built clean negates in_file refl own_file refl in
     let levels = default_passed s words levels_built clean in_levels tt own_levels refl in
-    let numbers = number_there 1 6 (codes "levels") levels.0 (rows_after s.rules [] words) levels.1 levels.2 in
+    let numbers = number_there 1 8 (codes "levels") levels.0 (rows_after s.rules [] words) levels.1 levels.2 in
     record {
       file = value_there (codes "file") file.0 (rows_after s.rules [] words) file.1;
       levels = numbers.0;

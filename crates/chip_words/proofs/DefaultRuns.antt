@@ -1,5 +1,5 @@
 -- How the words of a run that name no option are read.
-use Rattle.std.proofs.Common.{◌≡◌, refl}
+use Rattle.std.proofs.Common.{refl}
 use Rattle.clap.specs.Walk.{Text}
 use Rattle.clap.proofs.OnLiterals.{clap_on_literals}
 use Rattle.hex.specs.Hex.{decode_pairs}

@@ -17,12 +17,12 @@ flat_rule = record (new_rule (codes "flat")) { long = Some (codes "flat"); actio
 abbrev pub input_rule : Rule
 input_rule = record (new_rule (codes "input")) { long = Some (codes "input"); value_names = 1 }
 
--- `--levels L`, from 1 to 6, and 4 where it is left out
+-- `--levels L`, from 1 to 8, and 4 where it is left out
 abbrev pub levels_rule : Rule
 levels_rule = record (new_rule (codes "levels")) {
   long = Some (codes "levels");
   value_names = 1;
-  parser = Some (Unsigned 1 6);
+  parser = Some (Unsigned 1 8);
   defaults = codes "4" ∷ [];
 }
 

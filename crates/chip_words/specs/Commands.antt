@@ -18,7 +18,7 @@ HasNumber id values = HasValue id values
 pub record HasProgram (values : List Row) : Type 0 where
   pub file : HasValue (codes "file") values
   pub levels : HasNumber (codes "levels") values
-  pub bounds : (1 ≤ levels_of values) × (levels_of values ≤ 6)
+  pub bounds : (1 ≤ levels_of values) × (levels_of values ≤ 8)
 
 -- which program to run, and for how many steps at most
 pub record HasExecution (values : List Row) : Type 0 where

@@ -1,6 +1,7 @@
 -- What a run is where the words name no option.
-use Rattle.std.specs.Prelude.{◌≡◌, ◌-◌, ◌^◌, ℕ, List, [], ◌∷◌, Option, None, Ok, codes}
+use Rattle.std.specs.Prelude.{◌≡◌, ◌-◌, ◌^◌, ℕ, List, [], ◌∷◌, None, Ok, codes}
 use Rattle.clap.specs.Walk.{Text}
+use Rattle.sec_base.specs.Geometry.{one}
 use Rattle.chip_words.specs.Request.{ExecutionAsked, RunAsked, request_of, to_run}
 use Rattle.chip_words.specs.declared.request.ProgramForm.TheVariants.{ElfFile}
 use Rattle.chip_words.specs.declared.request.Tags.TheVariants.{Hmac}
@@ -28,7 +29,7 @@ default_terms = record {
 -- the file is an ELF file, for a tree of four levels; there is no input, and there are 10,000,000 steps
 abbrev pub default_execution : Text → ExecutionAsked
 default_execution name = record {
-  file = record { name = name; form = ElfFile; levels = 4 };
+  file = record { name = name; form = ElfFile; geometry = one 4 };
   input = None;
   steps = 10000000;
 }

@@ -8,6 +8,7 @@ use Rattle.clap.specs.Walk.{Row, Text, first_of, is_empty, one_of}
 use Rattle.clap.specs.Simple.{subcommand_of}
 use Rattle.clap.specs.Faults.{fault_of}
 use Rattle.hex.specs.Hex.{decode_sized}
+use Rattle.sec_base.specs.Geometry.{GeometryView, one}
 use Rattle.chip_words.specs.App.{chip_app}
 use Rattle.chip_words.specs.declared.fault.ValueFault.{ValueFault}
 use Rattle.chip_words.specs.declared.fault.ValueFault.TheVariants.{Tags as wrong_tags, Key as wrong_key, Nonce as wrong_nonce}
@@ -17,11 +18,11 @@ use Rattle.chip_words.specs.declared.request.Tags.{Tags}
 use Rattle.chip_words.specs.declared.request.Tags.TheVariants.{Hmac, Xor}
 use Rattle.chip_words.specs.declared.request.Terms.{Terms}
 
--- a program's file: its name, its form, and the levels of the tree whose memory the program is for
+-- a program's file: its name, its form, and the shape of the tree whose memory the program is for
 pub record FileAsked : Type 0 where
   pub name : Text
   pub form : ProgramForm
-  pub levels : ℕ
+  pub geometry : GeometryView
 
 -- what is to be run, and how
 pub record ExecutionAsked : Type 0 where
@@ -92,9 +93,13 @@ form_of values = if is_flat values then FlatFile else ElfFile
 abbrev pub input_of : List Row → Option Text
 input_of values = first_of (codes "input") values
 
--- the levels of the tree whose memory the program is for
+-- how many levels the tree has whose memory the program is for
 abbrev pub levels_of : List Row → ℕ
 levels_of values = numeral_value (value_of (codes "levels") values)
+
+-- the shape of that tree
+abbrev pub geometry_of : List Row → GeometryView
+geometry_of values = one (levels_of values)
 
 -- the limit of steps of the run
 abbrev pub steps_of : List Row → ℕ
@@ -103,7 +108,7 @@ steps_of values = numeral_value (value_of (codes "steps") values)
 -- the file that is named, as one of this form
 abbrev pub file_of : ProgramForm → List Row → FileAsked
 file_of form values =
-    record { name = value_of (codes "file") values; form = form; levels = levels_of values }
+    record { name = value_of (codes "file") values; form = form; geometry = geometry_of values }
 
 -- the file of a program that is not assembled: flat with `--flat`, else ELF
 abbrev pub program_of : List Row → FileAsked

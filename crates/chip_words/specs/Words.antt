@@ -19,7 +19,7 @@ texts words = map (λ word. word.now) words
 
 -- a program's file as the clauses see it
 abbrev pub file_asked : ProgramFile → FileAsked
-file_asked file = record { name = file.name.now; form = file.form; levels = file.geometry }
+file_asked file = record { name = file.name.now; form = file.form; geometry = file.geometry }
 
 -- what to execute as the clauses see it: the program, its input and the limit of steps
 abbrev pub execution_asked : Execution → ExecutionAsked

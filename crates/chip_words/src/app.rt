@@ -162,9 +162,9 @@ fn levels<'a>(alloc: Global) -> Arg<'a>
     Arg::new(alloc, "levels")
         .long("levels")
         .value_name("L")
-        .value_parser(value_parser!(u64).range(1..=6))
+        .value_parser(value_parser!(u64).range(1..=8))
         .default_value(LEVELS_TEXT)
-        .help("The levels of the memory's tree, 1 to 6")
+        .help("The levels of the memory's tree, 1 to 8")
 }
 
 fn steps<'a>(alloc: Global) -> Arg<'a>

@@ -1,10 +1,11 @@
 //! The words of the command line, what they ask for, and the texts that commands write.
 #![tactic(auto)]
 
-ghost use Rattle.std.specs.Prelude.{◌≡◌, ◌≢◌, ◌<◌, ◌≤◌, ◌^◌, ◌↔◌, [], Ok, IfOk, IfErr, IfSome, IsTrue};
+ghost use Rattle.std.specs.Prelude.{◌≡◌, ◌≢◌, ◌<◌, ◌^◌, ◌↔◌, [], Ok, IfOk, IfErr, IfSome, IsTrue};
 ghost use Rattle.clap.specs.Values.{kind_of};
 ghost use Rattle.clap.specs.declared.error.kind.ErrorKind.TheVariants.{OutOfMemory};
 ghost use Rattle.clap.specs.Faults.{fault_of};
+ghost use Rattle.sec_base.specs.Geometry.{IsGeometry};
 ghost use Rattle.chip_words.specs.App.{chip_app};
 ghost use Rattle.chip_words.specs.Request.{asked_number, asked_program, is_taken, request_of};
 ghost use Rattle.chip_words.specs.Words.{asked, texts, Explains, IfUsage};
@@ -44,8 +45,8 @@ pub use summary::write_summary;
 pub fn read_words<'a>(alloc: Global, words: &'a [&'a str]) -> Result<Request<'a>, WordsError>
     ensures taken { IfOk result (λ request. request_of (texts words.now) ≡ Ok (asked request)) }
     ensures refused { IfErr result (λ error. Explains error (request_of (texts words.now))) }
-    ensures levels { IfOk result (λ request.
-        IfSome (asked_program (asked request)) (λ file. (1 ≤ file.levels) × (file.levels ≤ 6))) }
+    ensures geometry { IfOk result (λ request.
+        IfSome (asked_program (asked request)) (λ file. IsGeometry file.geometry)) }
     ensures numbers { IfOk result (λ request. IfSome (asked_number (asked request)) (λ number. number < 2 ^ 32)) }
 
     // Words are taken just where clap has no fault to find in them. Then their values are tested.

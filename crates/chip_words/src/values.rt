@@ -3,7 +3,7 @@ ghost use Rattle.std.specs.Prelude.{◌≡◌, IsTrue, codes, option_map};
 ghost use Rattle.clap.specs.Walk.{first_of, rows_of};
 ghost use Rattle.clap.specs.Words.{found_of, subcommand_rows_of};
 ghost use Rattle.chip_words.specs.Commands.{HasExecution, HasNumber, HasProgram, HasProtectedRun, HasReport, HasValue, HasWorkload, IfCommand};
-ghost use Rattle.chip_words.specs.Request.{asked_in, device_key_of, execution_of, file_of, form_of, is_flat as is_flat_in, is_taken, levels_of, nonce_of, number_of, numeral_value, program_of, report_of, run_of, tags_of, terms_of, value_of};
+ghost use Rattle.chip_words.specs.Request.{asked_in, device_key_of, execution_of, file_of, form_of, geometry_of, is_flat as is_flat_in, is_taken, nonce_of, number_of, numeral_value, program_of, report_of, run_of, tags_of, terms_of, value_of};
 ghost use Rattle.chip_words.specs.Words.{answer_asked, execution_asked, file_asked, report_asked, run_asked};
 
 use crate::fault::ValueFault;
@@ -151,7 +151,7 @@ fn is_flat(values: &ArgMatches<'_>) -> bool
 
 fn geometry(values: &ArgMatches<'_>) -> Geometry
     requires { HasProgram (rows_of (found_of values.now)) }
-    ensures { result ≡ levels_of (rows_of (found_of values.now)) }
+    ensures { result ≡ geometry_of (rows_of (found_of values.now)) }
 {
     Geometry::new(number(values, "levels") as u8).unwrap()
 }

@@ -21,7 +21,7 @@ returns-in-Err-NoMemory-clause-run g c =
     let run = c.no_run.ensures in
     let left = c.in-Err-NoMemory.bus in
     boot_refused _ (g.S.Sink.state c.args.out.now) (g.B.Bus.history c.args.bus) (g.B.Bus.history left) c.no_run.result
-    image.entry image.size image.segments c.args.input.now refl c.requires.levels c.requires.no_lie c.requires.nothing_written
+    image.entry image.size image.segments c.args.input.now refl c.requires.geometry c.requires.no_lie c.requires.nothing_written
     (ap (λ bus. g.B.Bus.history bus) (c.in-Err-NoMemory.ensures.no_memory left (ap (λ f. Err f) c.in-Err-NoMemory.field-0-is)))
     run.retired run.ending run.made run.used run.evidence run.report
 

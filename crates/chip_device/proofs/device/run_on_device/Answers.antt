@@ -1,26 +1,32 @@
 use Rattle.std.proofs.Common.{ap}
 use Rattle.hmac_tag.specs.declared.derivation.Keys.{Keys}
-use Rattle.chip_device.proofs.DeviceRuns.{enc_key_is, hmac_tag_is, measurement_is, opening_is, xor_tag_is}
+use Rattle.chip_device.proofs.DeviceRuns.{enc_key_is, hmac_tag_is, measurement_is, opening_is, still_of, xor_tag_is}
 use Rattle.chip_device.proofs.device.run_on_device.Goals as goal
 
 pub returns-in-Hmac-clause-ran : goal.returns-in-Hmac-clause-ran
 returns-in-Hmac-clause-ran g c = λ program flat.
     let terms = c.args.asked.now.terms in
-    let levels = c.args.asked.now.execution.file.geometry in
-    let tags = hmac_tag_is terms c.new-tagger.result c.derive-keys.result levels c.in-Hmac.is c.new-tagger.ensures c.derive-keys.ensures in
+    let geometry = c.args.asked.now.execution.file.geometry in
+    let tags = hmac_tag_is terms c.new-tagger.result c.derive-keys.result geometry c.in-Hmac.is c.new-tagger.ensures c.derive-keys.ensures in
     let key = enc_key_is terms c.derive-keys.result c.derive-keys.ensures in
-    let opens = opening_is levels program c.args.input.now c.args.image.now flat in
-    let measured = measurement_is levels program c.args.image.now flat in
+    let opens = opening_is geometry program c.args.input.now c.args.image.now flat in
+    let measured = measurement_is geometry program c.args.image.now flat in
     let signed = ap (λ (keys : Keys). keys.report_key) c.derive-keys.ensures in
     rw (opens, tags, key, measured, signed, c.in_ok-bus.ensures.history) at c.run.ensures.run
 
 pub returns-in-Xor-clause-ran : goal.returns-in-Xor-clause-ran
 returns-in-Xor-clause-ran g c = λ program flat.
     let terms = c.args.asked.now.terms in
-    let levels = c.args.asked.now.execution.file.geometry in
-    let tags = xor_tag_is terms c.new-tagger-in-Xor.result c.derive-keys.result levels c.in-Xor.is c.new-tagger-in-Xor.ensures c.derive-keys.ensures in
+    let geometry = c.args.asked.now.execution.file.geometry in
+    let tags = xor_tag_is terms c.new-tagger-in-Xor.result c.derive-keys.result geometry c.in-Xor.is c.new-tagger-in-Xor.ensures c.derive-keys.ensures in
     let key = enc_key_is terms c.derive-keys.result c.derive-keys.ensures in
-    let opens = opening_is levels program c.args.input.now c.args.image.now flat in
-    let measured = measurement_is levels program c.args.image.now flat in
+    let opens = opening_is geometry program c.args.input.now c.args.image.now flat in
+    let measured = measurement_is geometry program c.args.image.now flat in
     let signed = ap (λ (keys : Keys). keys.report_key) c.derive-keys.ensures in
     rw (opens, tags, key, measured, signed, c.in_ok-bus.ensures.history) at c.run-in-Xor.ensures.run
+
+pub returns-in-Hmac-clause-bus : goal.returns-in-Hmac-clause-bus
+returns-in-Hmac-clause-bus g c = still_of c.args.script c.in_ok-bus.bus c.run.result.1 c.in_ok-bus.ensures.script c.run.ensures.bus
+
+pub returns-in-Xor-clause-bus : goal.returns-in-Xor-clause-bus
+returns-in-Xor-clause-bus g c = still_of c.args.script c.in_ok-bus.bus c.run-in-Xor.result.1 c.in_ok-bus.ensures.script c.run-in-Xor.ensures.bus

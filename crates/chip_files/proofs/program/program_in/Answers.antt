@@ -1,3 +1,4 @@
+use Rattle.chip_files.proofs.Lengths.{elf_small, flat_small}
 use Rattle.chip_files.proofs.Takings.{elf_image, flat_image, text_image}
 use Rattle.chip_files.proofs.program.program_in.Goals as goal
 
@@ -15,3 +16,13 @@ pub returns-in_ok-assemble-in-AssemblyText-clause-program : goal.returns-in_ok-a
 returns-in_ok-assemble-in-AssemblyText-clause-program c =
     let assembled = c.in_ok-assemble-in-AssemblyText in
     rw c.in-AssemblyText.is (text_image c.args.size c.args.bytes.now assembled.field-0 assembled.ensures.program)
+
+pub returns-in_ok-parse-in-ElfFile-clause-small : goal.returns-in_ok-parse-in-ElfFile-clause-small
+returns-in_ok-parse-in-ElfFile-clause-small c =
+    let parsed = c.in_ok-parse-in-ElfFile in
+    elf_small c.args.size c.args.bytes.now parsed.field-0 c.requires.short parsed.ensures.program
+
+pub returns-in_ok-flat-in-FlatFile-clause-small : goal.returns-in_ok-flat-in-FlatFile-clause-small
+returns-in_ok-flat-in-FlatFile-clause-small c =
+    let loaded = c.in_ok-flat-in-FlatFile in
+    flat_small c.args.size c.args.bytes.now loaded.field-0 c.requires.short loaded.ensures.program

@@ -29,12 +29,12 @@ pub returns-in_err-input-clause-stopped : goal.returns-in_err-input-clause-stopp
 returns-in_err-input-clause-stopped g c =
     let p = err_from_is_err_and c.from_residual-in_err-input.result c.from_residual-in_err-input.ensures.1 in
     let asked = c.args.asked.now in
-    let levels = asked.execution.file.geometry in
+    let geometry = asked.execution.file.geometry in
     let name = option_map (λ n. n.now) asked.script in
-    let scripts = script_needs levels name in
+    let scripts = script_needs geometry name in
     let inputs = input_needs (option_map (λ n. n.now) asked.execution.input) in
     let told = c.in_ok-image.ensures.taken.2 in
     rw (p.1, p.2) (stops_later c.in_err-input.field-0.0 (program_need (file_asked asked.execution.file) ∷ []) (scripts ++ inputs) _ _ _
     ((told.bytes, told.accepted), tt) c.in_ok-image.ensures.asked (later_by c.in_ok-image.ensures.held c.in_ok-image.ensures.quiet c.in_ok-image.ensures.bytes_taken)
-    (stops_later c.in_err-input.field-0.0 scripts inputs _ _ _ (script_accepted name levels c.in_ok-script.script _ c.in_ok-script.ensures.taken)
+    (stops_later c.in_err-input.field-0.0 scripts inputs _ _ _ (script_accepted name geometry c.in_ok-script.script _ c.in_ok-script.ensures.taken)
     c.in_ok-script.ensures.asked (later_by c.in_ok-script.ensures.held c.in_ok-script.ensures.quiet c.in_ok-script.ensures.bytes_taken) c.in_err-input.ensures.stopped))

@@ -14,8 +14,8 @@ pub store_image-requires-clause-zeros : goal.store_image-requires-clause-zeros
 store_image-requires-clause-zeros g c = λ quiet.
     let lines = c.in-Ok.memory.lines in
     let new = c.in-Ok.ensures.new in
-    opening_zeros lines.pads.key lines.engine.levels c.args.setup.now.geometry c.args.image.now.size lines.engine.made c.in-Ok.memory.ways
-    new.unmade new.depth_is c.requires.size c.in-Ok.ensures.none_held
+    opening_zeros lines.pads.key lines.engine.geometry c.args.setup.now.geometry c.args.image.now.size lines.engine.made c.in-Ok.memory.ways
+    new.unmade new.geometry_is c.requires.size c.in-Ok.ensures.none_held
 
 pub returns-in-Ok-store_image-clause-begun : goal.returns-in-Ok-store_image-clause-begun
 returns-in-Ok-store_image-clause-begun g c =
