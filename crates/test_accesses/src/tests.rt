@@ -40,7 +40,9 @@ fn run_counted(alloc: Global, number: u32) -> Result<(Ending, Made), Fail> {
         accesses: &count,
         most: 0,
     };
-    store_image(&mut counted, &image).ok().ok_or("not stored")?;
+    let Ok(()) = store_image(&mut counted, &image) else {
+        return Err(Fail::from("not stored"));
+    };
     let mut execution = Execution::new(&image, &[], counted, u64::MAX);
     let ending = execution.finish(&mut out);
     let (counted, _calls) = execution.into_parts();

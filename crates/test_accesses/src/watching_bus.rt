@@ -38,6 +38,15 @@ impl<'a> WatchingBus<'a> {
     fn count(&self) {
         self.accesses.set(self.accesses.get().saturating_add(1));
     }
+
+    // The node is written.
+    fn mark(&mut self, level: u8, index: u32)
+        ensures { self.new.bus ≡ self.old.bus }
+    {
+        if level == 1 && index < 64 {
+            self.written[index as usize] = true;
+        }
+    }
 }
 
 impl<'a> Bus for WatchingBus<'a> {
@@ -73,9 +82,7 @@ impl<'a> Bus for WatchingBus<'a> {
 
     fn write_node(&mut self, level: u8, index: u32, block: &[u8; 64]) -> Result<(), NoMemory> {
         self.count();
-        if level == 1 && index < 64 {
-            self.written[index as usize] = true;
-        }
+        self.mark(level, index);
         self.bus.write_node(level, index, block)
     }
 }

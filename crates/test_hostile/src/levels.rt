@@ -1,5 +1,5 @@
-// Memories of each number of levels L: they have 64 * 4^L lines. A program stores into three pages, which are apart by a quarter
-// of the memory. From three levels on their counter blocks share a set, and so do the nodes above them up to level L - 3: these
+// Memories of 1 to 8 levels L: they have 64 * 4^L lines. A program stores into three pages, which are apart by a quarter of the
+// memory. From three levels on their counter blocks share a set, and so do the nodes above them up to level L - 3: these
 // go out and are read again. No node above them is, and in memory of one level or two none at all. What is told is that of an
 // independent model in Python.
 use chip_cases::{call_by_script, call_program, shows};
@@ -23,7 +23,7 @@ struct Size<'a> {
 }
 
 // Each begins with the words of `lui t0`, `lui t1` and `lui t2`.
-const SIZES: [Size<'static>; 6] = [
+const SIZES: [Size<'static>; 8] = [
     Size {
         levels: "1",
         apart: [0x0000_12b7, 0x0000_2337, 0x0000_33b7],
@@ -83,6 +83,26 @@ const SIZES: [Size<'static>; 6] = [
         unread: b"read node 4 4 1: flip node 4 4 63 80\n",
         inside: b"access 1: swap data 0 data 262143\naccess 1: swap node 0 0 node 0 4095\naccess 1: save 0 node 6 0\n",
         outside: [b"data 262144", b"node 0 4096", b"node 6 1", b"node 7 0"],
+    },
+    Size {
+        levels: "7",
+        apart: [0x0100_02b7, 0x0200_0337, 0x0300_03b7],
+        read: b"read node 4 16 1: flip node 4 16 63 80\n",
+        told: b"tampered node 4 16\nretired 18\nlies 1\n",
+        status: 5,
+        unread: b"read node 5 4 1: flip node 5 4 63 80\n",
+        inside: b"access 1: swap data 0 data 1048575\naccess 1: swap node 0 0 node 0 16383\naccess 1: save 0 node 7 0\n",
+        outside: [b"data 1048576", b"node 0 16384", b"node 7 1", b"node 8 0"],
+    },
+    Size {
+        levels: "8",
+        apart: [0x0400_02b7, 0x0800_0337, 0x0c00_03b7],
+        read: b"read node 5 16 1: flip node 5 16 63 80\n",
+        told: b"tampered node 5 16\nretired 23\nlies 1\n",
+        status: 5,
+        unread: b"read node 6 4 1: flip node 6 4 63 80\n",
+        inside: b"access 1: swap data 0 data 4194303\naccess 1: swap node 0 0 node 0 65535\naccess 1: save 0 node 8 0\n",
+        outside: [b"data 4194304", b"node 0 65536", b"node 8 1", b"node 9 0"],
     },
 ];
 

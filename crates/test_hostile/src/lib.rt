@@ -6,6 +6,8 @@ mod attack_table;
 #[cfg(test)]
 mod attacks;
 #[cfg(test)]
+mod last_places;
+#[cfg(test)]
 mod levels;
 #[cfg(test)]
 mod node_attacks;

@@ -11,7 +11,10 @@ use std::test::Fail;
 // In 16 KiB of memory.
 const DIGEST_SMALL: &[u8] = b"16f7bfdd45a5acd592864f31537f995066d1d163ad715d1d9d9d83c121daa865\n";
 
-const CASES: [Case<'static>; 7] = [
+// In 256 MiB.
+const DIGEST_LARGEST: &[u8] = b"028306c0ef998a7844b921aa32c3cd5fd3a86d5a5de085b93c33ad2d7f625d6a\n";
+
+const CASES: [Case<'static>; 9] = [
     Case {
         words: &DIS,
         bytes: EXIT_7_BYTES,
@@ -37,6 +40,20 @@ const CASES: [Case<'static>; 7] = [
         words: &["chip", "measure", "f", "--flat", "--levels", "1"],
         bytes: EXIT_7_BYTES,
         printed: DIGEST_SMALL,
+        told: b"",
+        status: 0,
+    },
+    Case {
+        words: &["chip", "measure", "f", "--flat", "--levels", "8"],
+        bytes: EXIT_7_BYTES,
+        printed: DIGEST_LARGEST,
+        told: b"",
+        status: 0,
+    },
+    Case {
+        words: &["chip", "dis", "f", "--levels", "8"],
+        bytes: &EXIT_7_ELF,
+        printed: LISTING,
         told: b"",
         status: 0,
     },

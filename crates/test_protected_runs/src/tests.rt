@@ -1,8 +1,9 @@
 // Runs of programs of a few words, over buses that tell the truth, that flip a bit of one answer, that refuse one access, or
 // that answer what stood there before. Some programs have data in two further segments.
 ghost use Rattle.std.specs.Prelude.{◌≡◌, ◌+◌, ◌<◌, ◌≤◌, IfOk, length};
+ghost use Rattle.sec_base.specs.Geometry.{one};
 ghost use Rattle.sec_base.specs.Image.{IsImage};
-ghost use Rattle.sec_base.specs.Place.{place_size};
+ghost use Rattle.sec_base.specs.Place.{stored_size};
 ghost use Rattle.sec_base.specs.Segment.{IsSegment};
 
 mod evictions;
@@ -243,7 +244,7 @@ fn flipped<T: Tagger>(
     tagger: T,
 ) -> Result<(Told, u64), Fail>
     requires words { length words.now ≤ 16 }
-    requires place { 0 < place_size place }
+    requires place { 0 < stored_size (one 1) place }
 {
     let geometry = Geometry::new(1).ok_or("no geometry")?;
     let image = Image {
@@ -266,7 +267,7 @@ fn flipped_under_keys(
     k: u64,
 ) -> Result<(Told, u64), Fail>
     requires words { length words.now ≤ 16 }
-    requires place { 0 < place_size place }
+    requires place { 0 < stored_size (one 1) place }
 {
     flipped(alloc, words, place, k, HmacTagger::new(&keys()))
 }
@@ -278,7 +279,7 @@ fn far_apart<T: Tagger>(
     k: u64,
     tagger: T,
 ) -> Result<(RunRecord, u64), Fail>
-    requires place { 0 < place_size place }
+    requires place { 0 < stored_size (one 4) place }
 {
     let geometry = Geometry::new(4).ok_or("no geometry")?;
     let image = Image {

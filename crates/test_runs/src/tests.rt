@@ -2,8 +2,9 @@
 // and the machine's rules.
 use bus_model::{Bus, HonestBus};
 use chip_cases::{
-    Call, EXIT_7, EXIT_65, PLAIN_ON_INPUT, PRINT_A, RUN, RUN_ON_INPUT, RUN_SMALL, Shown,
-    call_program, file, make_call, program, shows,
+    Call, EXIT_7, EXIT_7_TEXT, EXIT_65, PLAIN_ON_INPUT, PRINT_A, READ_UNTOUCHED, RUN, RUN_ON_INPUT,
+    RUN_SMALL, STORE_AND_PRINT, Shown, call_assembled, call_program, file, make_call, program,
+    shows,
 };
 use chip_device::RunBus;
 use sec_base::{Ending, Geometry, NoMemory, Sealed};
@@ -56,6 +57,16 @@ const READ_FROM_3: [u32; 7] = [
     0x0000_0073, // ecall
 ];
 
+// It stores a byte at the end of the stack's line, and exits with the last byte of 256 MiB.
+const LAST_BYTE: [u32; 6] = [
+    0x1000_02b7, // lui t0, 0x10000
+    0x0410_0313, // addi t1, zero, 65
+    0x0261_0fa3, // sb t1, 63(sp)
+    0xfff2_c503, // lbu a0, -1(t0)
+    0x05d0_0893, // addi a7, zero, 93
+    0x0000_0073, // ecall
+];
+
 // addi zero, zero, 0
 const NOTHING: u32 = 0x0000_0013;
 
@@ -104,9 +115,23 @@ fn check_program(rt: &impl Abort, alloc: Global, case: Case<'_>) -> Result<(), N
     check_call(rt, call, shown, true)
 }
 
-const ENDS: [Case<'static>; 10] = [
+const ENDS: [Case<'static>; 13] = [
     Case {
         option: ["--levels", "4"],
+        code: &EXIT_7,
+        printed: b"",
+        told: b"halted 7\nretired 3\n",
+        status: 0,
+    },
+    Case {
+        option: ["--levels", "7"],
+        code: &EXIT_7,
+        printed: b"",
+        told: b"halted 7\nretired 3\n",
+        status: 0,
+    },
+    Case {
+        option: ["--levels", "8"],
         code: &EXIT_7,
         printed: b"",
         told: b"halted 7\nretired 3\n",
@@ -176,6 +201,13 @@ const ENDS: [Case<'static>; 10] = [
         told: b"halted 1048512\nretired 3\n",
         status: 0,
     },
+    Case {
+        option: ["--levels", "8"],
+        code: &LAST_BYTE,
+        printed: b"",
+        told: b"halted 65\nretired 6\n",
+        status: 0,
+    },
 ];
 
 #[test]
@@ -187,7 +219,7 @@ fn programs_end(rt: HostRuntime) -> Result<(), Fail> {
 }
 
 // The levels of the memory, a program, and how it traps.
-const TRAPS: [(&str, &[u32], &[u8]); 8] = [
+const TRAPS: [(&str, &[u32], &[u8]); 10] = [
     // Nothing at all; three instructions and then no more; a word without a row.
     ("4", &[], b"trapped illegal pc 00000000\nretired 0\n"),
     (
@@ -237,6 +269,27 @@ const TRAPS: [(&str, &[u32], &[u8]); 8] = [
         ],
         b"trapped outside memory pc 00000008\nretired 2\n",
     ),
+    // A store past 64 MiB. Of 256 MiB the last byte is stored and loaded, the last word loaded, and then a byte past it.
+    (
+        "7",
+        &[
+            0x0400_02b7, // lui t0, 0x4000
+            0xffc2_a303, // lw t1, -4(t0)
+            0x0052_8023, // sb t0, 0(t0)
+        ],
+        b"trapped outside memory pc 00000008\nretired 2\n",
+    ),
+    (
+        "8",
+        &[
+            0x1000_02b7, // lui t0, 0x10000
+            0xfe52_8fa3, // sb t0, -1(t0)
+            0xfff2_c303, // lbu t1, -1(t0)
+            0xffc2_a303, // lw t1, -4(t0)
+            0x0002_c303, // lbu t1, 0(t0)
+        ],
+        b"trapped outside memory pc 00000010\nretired 4\n",
+    ),
 ];
 
 #[test]
@@ -250,6 +303,45 @@ fn programs_trap(rt: HostRuntime) -> Result<(), Fail> {
             status: 1,
         };
         check_program(&rt, rt.alloc(), case)?;
+    }
+    Ok(())
+}
+
+// How many accesses the run of an assembly text in the largest memory makes of a bus that tells the truth.
+fn check_accesses(
+    rt: &impl Abort,
+    alloc: Global,
+    text: &[u8],
+    printed: &[u8],
+    told: &[u8],
+    accesses: u64,
+) -> Result<(), NoMemory> {
+    let words = ["chip", "run", "f", "--levels", "8"];
+    let call = call_assembled(alloc, &words, text, &[])?;
+    let made = match &call.done.bus {
+        Some(RunBus::Honest(bus)) => Some(bus.accesses()),
+        _ => None,
+    };
+    assert_eq!(rt;
+        (call.shown(), made),
+        (shows(printed, told, 0), Some(accesses))
+    );
+    Ok(())
+}
+
+// A program, what it prints and tells, and its accesses. The first has one line, and boot makes none. The second evicts three
+// lines that it stored, 5, 6 and 69, and reads line 5 again. The third evicts 5, the counter block of page 0, and 69, and reads
+// the block and line 5 again. No level above has more nodes in a set than two. So say bench/accesses.py and the rules by hand.
+const COUNTED: [(&[u8], &[u8], &[u8], u64); 3] = [
+    (EXIT_7_TEXT, b"", b"halted 7\nretired 3\nlies 0\n", 0),
+    (STORE_AND_PRINT, b"A", b"halted 65\nretired 20\nlies 0\n", 4),
+    (READ_UNTOUCHED, b"", b"halted 64\nretired 15\nlies 0\n", 5),
+];
+
+#[test]
+fn programs_make_as_many_accesses_of_8_levels(rt: HostRuntime) -> Result<(), Fail> {
+    for (text, printed, told, accesses) in COUNTED {
+        check_accesses(&rt, rt.alloc(), text, printed, told, accesses)?;
     }
     Ok(())
 }

@@ -13,7 +13,7 @@ const OTHER_WORDS: [&[&str]; 18] = [
     &["chip", "help", "run"],
     &["chip", "run"],
     &["chip", "run", "f", "--flat", "x"],
-    &["chip", "run", "f", "--flat", "--levels", "7"],
+    &["chip", "run", "f", "--flat", "--levels", "9"],
     &["chip", "run", "f", "--page-limit", "18446744073709551616"],
     &["chip", "plain", "f", "--page-limit", "1"],
     &["chip", "dis", "f", "--flat", "--steps", "3"],
@@ -42,17 +42,36 @@ fn other_words_are_usage(rt: HostRuntime) -> Result<(), Fail> {
 
 fn tells_first(alloc: Global, words: &[&str], told: &[u8]) -> Result<bool, NoMemory> {
     let call = call_without_files(alloc, words)?;
-    Ok(call.note.bytes().starts_with(told))
+    Ok(call.is_usage() && call.note.bytes().starts_with(told))
 }
 
-// The lines that stand first where `clap` refuses the words; the text is one piece behind `usage`.
+// The lines that stand first where `clap` refuses a number of levels; the text is one piece behind `usage`.
+const NO_LEVELS: [(&str, &[u8]); 2] = [
+    (
+        "9",
+        b"usage\nerror: invalid value '9' for '--levels <L>': 9 is not in 1..=8\n",
+    ),
+    (
+        "0",
+        b"usage\nerror: invalid value '0' for '--levels <L>': 0 is not in 1..=8\n",
+    ),
+];
+
+fn check_levels(rt: &impl Abort, alloc: Global, command: &str) -> Result<(), NoMemory> {
+    for (levels, told) in NO_LEVELS {
+        let words = ["chip", command, "f", "--levels", levels];
+        let is_told = tells_first(alloc, &words, told)?;
+        assert!(rt; is_told, "{command} {levels}");
+    }
+    Ok(())
+}
+
+// Of each command with a memory.
 #[test]
 fn usage_says_what_is_wrong(rt: HostRuntime) -> Result<(), Fail> {
-    let words = ["chip", "run", "f", "--levels", "7"];
-    let told =
-        b"usage\nerror: invalid value '7' for '--levels <L>': 7 is not in 1..=6\n".as_slice();
-    let is_told = tells_first(rt.alloc(), &words, told)?;
-    assert!(rt; is_told);
+    for command in ["run", "plain", "asm", "dis", "measure"] {
+        check_levels(&rt, rt.alloc(), command)?;
+    }
     Ok(())
 }
 
@@ -83,8 +102,8 @@ fn check_cut(
 const CUTS: [(&[&str], u64, &[u8]); 4] = [
     (&["chip"], 1, b""),
     (&["chip", "asm", "f", "--flat"], 1, b""),
-    (&["chip", "run", "f", "--levels", "7"], 1, b""),
-    (&["chip", "run", "f", "--levels", "7"], 2, b"usage\n"),
+    (&["chip", "run", "f", "--levels", "9"], 1, b""),
+    (&["chip", "run", "f", "--levels", "9"], 2, b"usage\n"),
 ];
 
 #[test]

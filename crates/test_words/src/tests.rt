@@ -94,8 +94,8 @@ fn requests(rt: HostRuntime) -> Result<(), Fail> {
         ("chip run p --steps +5", ("run", "p", ElfFile, None, 4, 5)),
         ("chip run --steps 007 p", ("run", "p", ElfFile, None, 4, 7)),
         (
-            "chip run p --steps 18446744073709551615 --levels 6",
-            ("run", "p", ElfFile, None, 6, u64::MAX),
+            "chip run p --steps 18446744073709551615 --levels 8",
+            ("run", "p", ElfFile, None, 8, u64::MAX),
         ),
         ("chip plain p", ("plain", "p", ElfFile, None, 4, 10_000_000)),
         (
@@ -104,8 +104,8 @@ fn requests(rt: HostRuntime) -> Result<(), Fail> {
         ),
         ("chip dis p", ("dis", "p", ElfFile, None, 4, 0)),
         (
-            "chip dis --flat p --levels +06",
-            ("dis", "p", FlatFile, None, 6, 0),
+            "chip dis --flat p --levels +08",
+            ("dis", "p", FlatFile, None, 8, 0),
         ),
         ("chip measure p", ("measure", "p", ElfFile, None, 4, 0)),
         (
@@ -210,7 +210,7 @@ fn wrong_values(rt: HostRuntime) -> Result<(), Fail> {
         ("chip run p --tags xo", Some(ValueFault::Tags)),
         ("chip run p --tags=", Some(ValueFault::Tags)),
         ("chip run p --tags xor", None),
-        ("chip run p --tags md5 --levels 7", None),
+        ("chip run p --tags md5 --levels 9", None),
         ("chip plain p --tags md5", None),
         ("chip run p --key 00", Some(ValueFault::Key)),
         ("chip run p --key=", Some(ValueFault::Key)),
@@ -390,7 +390,7 @@ fn refusals(rt: HostRuntime) -> Result<(), Fail> {
         "chip run --flat",
         "chip run a b",
         "chip run p --levels 0",
-        "chip run p --levels 7",
+        "chip run p --levels 9",
         "chip run p --levels=-0",
         "chip run p --levels x",
         "chip run p --levels",
@@ -416,22 +416,25 @@ fn refusals(rt: HostRuntime) -> Result<(), Fail> {
         "chip plain p --nonce 00",
         "chip run p -f",
         "chip plain p -- --flat",
+        "chip plain p --levels 9",
         "chip plain p --page-limit 1",
         "chip plain p --script s",
         "chip plain p --tags xor",
         "chip run p --script",
         "chip run p --tags",
         "chip run p --tags xor --tags xor",
+        "chip dis p --levels 9",
         "chip dis p --steps 3",
         "chip dis p --input i",
         "chip dis p --page-limit 1",
         "chip asm",
         "chip asm p --flat",
         "chip asm p --input i",
-        "chip asm p --levels 7",
+        "chip asm p --levels 9",
         "chip asm p --page-limit 1",
         "chip measure",
         "chip measure p q",
+        "chip measure p --levels 9",
         "chip measure p --steps 3",
         "chip measure p --page-limit 1",
         "chip measure p --key 00",
@@ -471,8 +474,8 @@ fn refusals(rt: HostRuntime) -> Result<(), Fail> {
 
 #[test]
 fn text_of_a_refusal(rt: HostRuntime) -> Result<(), Fail> {
-    let text = usage(rt.alloc(), "chip run p --levels 7")?.ok_or("no text")?;
-    let first = "error: invalid value '7' for '--levels <L>': 7 is not in 1..=6\n";
+    let text = usage(rt.alloc(), "chip run p --levels 9")?.ok_or("no text")?;
+    let first = "error: invalid value '9' for '--levels <L>': 9 is not in 1..=8\n";
     assert!(rt; text.as_str().starts_with(first), "{text}");
     Ok(())
 }

@@ -4,6 +4,8 @@ ghost use Rattle.std.specs.Option.{option_map};
 ghost use Rattle.std.specs.Str.{bytes_eq};
 ghost use Rattle.sec_base.specs.Count.{more_by};
 ghost use Rattle.sec_base.specs.Evidence.{sealed_bytes};
+ghost use Rattle.sec_base.specs.Tag.{IsTag};
+ghost use Rattle.sec_base.specs.declared.geometry.Layout.{Layout};
 ghost use Rattle.bus_model.specs.BusHistory.{new_history};
 ghost use Rattle.bus_model.specs.HonestBus.{honest_history};
 
@@ -56,13 +58,34 @@ struct Stale {
 }
 
 impl Stale {
-    fn keep_line(&mut self, line: u32, sealed: &Sealed) {
+    // Nothing is kept yet.
+    fn nothing() -> Stale
+        ensures { (layout : Layout) → IsTag layout result.line.tag }
+    {
+        let line = Sealed {
+            cipher: [0; 64],
+            tag: [0; 16],
+        };
+        Stale {
+            line,
+            counters: [0; 64],
+            node: [0; 64],
+            is_kept: false,
+            is_replayed: false,
+        }
+    }
+
+    fn keep_line(&mut self, line: u32, sealed: &Sealed)
+        ensures { (layout : Layout) → IsTag layout sealed.now.tag → IsTag layout self.old.line.tag → IsTag layout self.new.line.tag }
+    {
         if line == 2053 && !self.is_kept {
             self.line = *sealed;
         }
     }
 
-    fn keep_node(&mut self, level: u8, index: u32, block: &[u8; 64]) {
+    fn keep_node(&mut self, level: u8, index: u32, block: &[u8; 64])
+        ensures { self.new.line ≡ self.old.line }
+    {
         match (level, index, self.is_kept) {
             (0, 32, false) => self.counters = *block,
             (1, 8, false) => {
@@ -72,6 +95,11 @@ impl Stale {
             (1, 8, true) => self.is_replayed = true,
             _ => {}
         }
+    }
+
+    // The line is replayed.
+    fn replays(&self, line: u32) -> bool {
+        self.is_replayed && line == 2053
     }
 
     // What is replayed of a node, if it is one that is.
@@ -93,6 +121,7 @@ pub(crate) struct ReplayBus {
     stale: Stale,
     accesses: u64,
     lies: Lies,
+    ghost fits: { IsTag bus.geometry.layout stale.line.tag },
 }
 
 impl ReplayBus {
@@ -103,21 +132,11 @@ impl ReplayBus {
           lie = option_map (λ answer. record { access = answer.access; place = answer.place; bytes = answer.bytes.items }) bus.lies.first;
         } ≡ new_history geometry) }
     {
-        let line = Sealed {
-            cipher: [0; 64],
-            tag: [0; 16],
-        };
         Ok(ReplayBus {
             bus: HonestBus::new(alloc, geometry)?,
             alloc,
             below,
-            stale: Stale {
-                line,
-                counters: [0; 64],
-                node: [0; 64],
-                is_kept: false,
-                is_replayed: false,
-            },
+            stale: Stale::nothing(),
             accesses: 0,
             lies: Lies {
                 count: 0,
@@ -150,7 +169,7 @@ impl Bus for ReplayBus {
         let bytes = bytes_of(self.alloc, &answer)?;
         let sealed = self.bus.read_data(line)?;
         self.accesses = self.accesses.saturating_add(1);
-        if !self.stale.is_replayed || line != 2053 {
+        if !self.stale.replays(line) {
             return Ok(sealed);
         }
         if !differs(answer, sealed) {
@@ -177,7 +196,10 @@ impl Bus for ReplayBus {
         let bytes = Vec::from_slice(self.alloc, &answer)?;
         let block = self.bus.read_node(level, index)?;
         self.accesses = self.accesses.saturating_add(1);
-        if stale.is_none() || answer == block {
+        if stale.is_none() {
+            return Ok(block);
+        }
+        if answer == block {
             return Ok(block);
         }
         self.lies

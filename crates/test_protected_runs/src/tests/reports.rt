@@ -1,7 +1,8 @@
 // The reports of runs on the input `abc` under the nonce 01 02 .. 10. The texts are from Python 3.11: its `struct`,
 // `hashlib` and `hmac`.
 ghost use Rattle.std.specs.Prelude.{◌<◌, ◌≤◌, length};
-ghost use Rattle.sec_base.specs.Place.{place_size};
+ghost use Rattle.sec_base.specs.Geometry.{one};
+ghost use Rattle.sec_base.specs.Place.{stored_size};
 
 use super::programs::{EXIT_WITH_65_AGAIN, PRINT_A, PRINT_A_AGAIN, WEAR_LINE_64};
 use super::{LINE_64, flat, keys};
@@ -73,7 +74,7 @@ fn report<T: Tagger>(
     tagger: T,
 ) -> Result<Option<[u8; 158]>, Fail>
     requires words { length words.now ≤ 16 }
-    requires place { 0 < place_size flip.0 }
+    requires place { 0 < stored_size (one 1) flip.0 }
 {
     let geometry = Geometry::new(1).ok_or("no geometry")?;
     let image = Image {
@@ -104,7 +105,7 @@ fn reports(
     expected: &[u8],
 ) -> Result<(), Fail>
     requires words { length words.now ≤ 16 }
-    requires place { 0 < place_size flip.0 }
+    requires place { 0 < stored_size (one 1) flip.0 }
 {
     let report = report(alloc, words, limits, flip, &[], HmacTagger::new(&keys()))?;
     let bytes = report.ok_or("no report")?;

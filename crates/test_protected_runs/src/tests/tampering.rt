@@ -1,6 +1,7 @@
 // False answers: one bit is flipped, or what stood there before is answered.
 ghost use Rattle.std.specs.Prelude.{◌<◌};
-ghost use Rattle.sec_base.specs.Place.{place_size};
+ghost use Rattle.sec_base.specs.Geometry.{one};
+ghost use Rattle.sec_base.specs.Place.{stored_size};
 
 use super::programs::{EXIT_7, EXIT_WITH_65_AGAIN, PRINT_8, STORE_FAR_APART};
 use super::replay_bus::ReplayBus;
@@ -101,7 +102,7 @@ const READS: [((u8, u32), &[u64]); 10] = [
 // How a run ends and what it retired, where the lowest bit of the `k`-th answer of a node is flipped, and how many answers were
 // false.
 fn flipped_far_apart(alloc: Global, place: Place, k: u64) -> Result<(Ending, u64, u64), Fail>
-    requires { 0 < place_size place }
+    requires { 0 < stored_size (one 4) place }
 {
     let (done, lies) = far_apart(alloc, place, k, HmacTagger::new(&keys()))?;
     Ok((done.ending, done.retired, lies))

@@ -8,8 +8,8 @@ use Rattle.test_protected_runs.specs.declared.tests.replay_bus.FalseAnswer.{Fals
 use Rattle.test_protected_runs.proofs.tests.Replays.{first_told, own_answered, own_lied}
 use Rattle.test_protected_runs.proofs.tests.replay_bus.ReplayBusBus.read_data.Goals as goal
 
-pub returns-then-not-self-clause-ok : goal.returns-then-not-self-clause-ok
-returns-then-not-self-clause-ok c =
+pub returns-then-not-replays-clause-ok : goal.returns-then-not-replays-clause-ok
+returns-then-not-replays-clause-ok c =
     own_answered (honest_history c.args.self.now.bus) (honest_history c.read_data.new.self) _ _ _ _ (Line c.args.line)
     c.saturating_add-self.ensures (sealed_bytes c.in_ok-sealed.sealed) c.in_ok-sealed.ensures.ok c.in_ok-sealed.ensures.answer
 

@@ -12,6 +12,11 @@ returns-then-is_none-clause-ok c =
     own_answered (honest_history c.args.self.now.bus) (honest_history c.read_node.new.self) _ _ _ _ (Node c.args.level c.args.index)
     c.saturating_add-self.ensures c.in_ok-block.block c.in_ok-block.ensures.ok c.in_ok-block.ensures.answer
 
+pub returns-then-eq-clause-ok : goal.returns-then-eq-clause-ok
+returns-then-eq-clause-ok c =
+    own_answered (honest_history c.args.self.now.bus) (honest_history c.read_node.new.self) _ _ _ _ (Node c.args.level c.args.index)
+    c.saturating_add-self.ensures c.in_ok-block.block c.in_ok-block.ensures.ok c.in_ok-block.ensures.answer
+
 pub returns-clause-ok : goal.returns-clause-ok
 returns-clause-ok c =
     let seen : FalseAnswer → Lie = λ answer. record { access = answer.access; place = answer.place; bytes = answer.bytes.items } in
