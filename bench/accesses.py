@@ -27,7 +27,7 @@ def arguments():
     parser = argparse.ArgumentParser(description=__doc__, formatter_class=argparse.RawDescriptionHelpFormatter)
     parser.add_argument("file", metavar="FILE", help="the program: an ELF file, or with --flat a flat file")
     parser.add_argument("--flat", action="store_true")
-    parser.add_argument("--levels", type=int, choices=range(1, 7), default=4, metavar="L", help="1 to 6, default 4")
+    parser.add_argument("--levels", type=int, choices=range(1, 9), default=4, metavar="L", help="1 to 8, default 4")
     parser.add_argument("--input", metavar="F", help="the file that the program reads")
     parser.add_argument("--steps", type=int, default=10000000, metavar="N", help="default 10000000")
     parser.add_argument("--trace", action="store_true", help="a line for each access")

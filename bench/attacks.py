@@ -7,7 +7,7 @@ access as docs/FORMATS.md says of scripts.
 
 The table of attacks is three programs, five places, six actions and three triggers: 261 runs, under tags of each kind.
 Saves are made before access 1, when all of the memory is zeros. The attacks on nodes are over a program whose counter blocks
-and nodes go out, under tags of each kind too.
+and nodes go out, under tags of each kind too; so are those on the last places of a memory of 8 levels.
 """
 
 import collections
@@ -27,8 +27,7 @@ TOP = os.path.dirname(os.path.dirname(os.path.abspath(__file__)))
 TESTS = os.path.join(TOP, "crates", "test_hostile", "src")
 TEXTS = os.path.join(TOP, "crates", "chip_cases", "src", "texts.rt")
 DEVICE_KEY = bytes(range(32))
-LEVELS = 4
-SIZE = 4096 * 4**LEVELS
+LEVELS, MOST_LEVELS = 4, 8
 NO_TAG = bytes(16)  # in the place of a tag: of a node that was never made, which is zeros and is not read
 
 
@@ -150,13 +149,13 @@ class Cache:
 class Chip:
     """The protected memory. A slice of it inside one line is read and written as one of a bytearray."""
 
-    def __init__(self, bus, tags):
-        self.bus, self.tags, self.evidence = bus, tags, []
+    def __init__(self, bus, tags, levels):
+        self.bus, self.tags, self.levels, self.evidence = bus, tags, levels, []
         keys = {name: hmac.digest(DEVICE_KEY, name.encode(), "sha256") for name in ("enc", "data", "tree")}
         self.aes = Cipher(algorithms.AES(keys["enc"][:16]), modes.ECB()).encryptor()
         self.keys, self.made, self.last = keys, set(), {}
         self.lines = Cache(64)
-        self.copies = [Cache(8 if level else 16) for level in range(LEVELS + 1)]
+        self.copies = [Cache(8 if level else 16) for level in range(levels + 1)]
         self.root = NO_TAG
 
     def tag(self, key, message):
@@ -192,7 +191,7 @@ class Chip:
             slot = 16 * (victim % 4)
             parent[0][slot : slot + 16], parent[1] = self.make_node(level, victim, bytes(old)), True
         wanted = self.root
-        if level < LEVELS:
+        if level < self.levels:
             slot = 16 * (index % 4)
             wanted = bytes(self.node(level + 1, index // 4)[0][slot : slot + 16])
         block = bytes(64) if wanted == NO_TAG else self.read_node(level, index, wanted)
@@ -260,11 +259,11 @@ class Chip:
 # --- a run -----------------------------------------------------------------------------------------------------------
 
 
-def run(code, tags="hmac", script=""):
+def run(code, tags="hmac", script="", levels=LEVELS):
     """What is printed, and what is told before the report."""
     bus = Bus(script)
-    chip, printed, retired = Chip(bus, tags), b"", 0
-    registers, pc, ending = [0, 0, SIZE - 64] + [0] * 29, 0, None
+    chip, printed, retired = Chip(bus, tags, levels), b"", 0
+    registers, pc, ending = [0, 0, 4096 * 4**levels - 64] + [0] * 29, 0, None
     try:
         for at, byte in enumerate(code):
             chip[at : at + 1] = bytes([byte])
@@ -371,15 +370,15 @@ def check_table(text, programs, tags):
     return faults
 
 
-def check_nodes(text, code):
-    """The runs of node_attacks.rt: under which tags and by which script, and what is told."""
+def check_places(text, code, levels):
+    """The runs of node_attacks.rt or last_places.rt: under which tags and by which script, and what is told."""
     caught, mended = texts_of(text, "CAUGHT"), texts_of(text, "MENDED")
     runs = [(tags, script, told) for script, told in zip(caught[::2], caught[1::2]) for tags in ("hmac", "xor")]
-    runs += [("hmac", script, run(code)[1]) for script in texts_of(text, "UNSEEN")]
+    runs += [("hmac", script, run(code, levels=levels)[1]) for script in texts_of(text, "UNSEEN")]
     for script, told, passed in zip(mended[::3], mended[1::3], mended[2::3]):
         runs += [("hmac", script, told), ("xor", script, passed)]
-    print(f"{len(runs)} runs of attacks on nodes")
-    came = [(tags, script, run(code, tags, script)[1]) for tags, script, _ in runs]
+    print(f"{len(runs)} runs of attacks on places of {levels} levels")
+    came = [(tags, script, run(code, tags, script, levels)[1]) for tags, script, _ in runs]
     return [f"{was} comes to {is_[2]!r}" for was, is_ in zip(runs, came) if was != is_]
 
 
@@ -400,14 +399,25 @@ def check_cases(text, programs):
     return faults
 
 
+def check_small(text, programs):
+    """The runs of the programs of four levels in the largest memory: the program, the tags, the script, and what it comes to."""
+    row = r'\(\s+(\w+),\s+"(\w+)",\s+b"([^"]*)",\s+b"([^"]*)",\s+b"([^"]*)",'
+    rows = [(name.lower(), tags, *map(literal, rest)) for name, tags, *rest in re.findall(row, block_of(text, "SMALL"))]
+    came = [run(programs[name], tags, script, MOST_LEVELS) for name, tags, script, *_ in rows]
+    print(f"{len(rows)} runs of {MOST_LEVELS} levels")
+    return [f"{was} comes to {is_}" for was, is_ in zip(rows, came) if was[3:] != is_]
+
+
 def main():
-    names = ("attack_table.rt", "attacks.rt", "node_attacks.rt")
-    attack_table, attacks, node_attacks = (text_of(os.path.join(TESTS, name)) for name in names)
-    texts = re.findall(r'^(?:pub )?const (\w+): &\[u8\] = b"([^"]*)";', text_of(TEXTS) + attacks, re.MULTILINE)
+    names = ("attack_table.rt", "attacks.rt", "node_attacks.rt", "last_places.rt")
+    attack_table, attacks, node_attacks, last_places = (text_of(os.path.join(TESTS, name)) for name in names)
+    sources = text_of(TEXTS) + attacks + last_places
+    texts = re.findall(r'^(?:pub )?const (\w+): &\[u8\] = b"([^"]*)";', sources, re.MULTILINE)
     codes = {name.lower(): assembled(literal(text)) for name, text in texts if "ecall" in text}
     programs = {name: codes[name] for name in ("store_and_print", "store_twice", "store_200_times")}
     faults = [fault for tags in ("hmac", "xor") for fault in check_table(attack_table, programs, tags)]
-    faults += check_cases(attacks, codes) + check_nodes(node_attacks, codes["store_far_apart"])
+    faults += check_cases(attacks, codes) + check_places(node_attacks, codes["store_far_apart"], LEVELS)
+    faults += check_places(last_places, codes["store_last"], MOST_LEVELS) + check_small(last_places, codes)
     if faults:
         sys.exit("\n".join(faults))
 

@@ -98,7 +98,7 @@ def main():
     parser.add_argument("--output", metavar="F", required=True)
     parser.add_argument("--nonce", metavar="HEX", required=True, help="32 digits")
     parser.add_argument("--flat", action="store_true", help="the program's file is flat")
-    parser.add_argument("--levels", metavar="L", type=int, choices=range(1, 7), default=4, help="1 to 6")
+    parser.add_argument("--levels", metavar="L", type=int, choices=range(1, 9), default=4, help="1 to 8")
     parser.add_argument("--code", metavar="N", type=int, help="the exit code")
     add_key(parser)
     words = parser.parse_args()

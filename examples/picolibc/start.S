@@ -8,7 +8,7 @@ _start:
         .option norelax
         la      gp, __global_pointer$
         .option pop
-        srli    t0, sp, 24              # QEMU's stack is above 16 MiB: it stays
+        srli    t0, sp, 28              # QEMU's stack is above 256 MiB: it stays
         bnez    t0, 1f
         la      sp, __stack             # the chip's ends at 0, below the program
 1:      la      tp, __tls_base          # where picolibc keeps errno
