@@ -1,4 +1,4 @@
--- The layout of a report: its fields are put, taken and told apart.
+-- The fields of a report are put, taken and told apart.
 use Rattle.std.proofs.Common.{◌≡◌, ℕ, ◌+◌, ◌<◌, List, [], ◌∷◌, ◌++◌, length, slice_index, take, drop, refl, sym, ap, ◌∙◌, arith, length-append, inl, inr, w32, w64}
 use Rattle.std.proofs.Math.Seq.{take-add}
 use Rattle.std.proofs.lemmas.Bool.{cases_lt}
@@ -9,64 +9,60 @@ use Rattle.sec_base.proofs.MessageBytes.{put_behind, number_32, number_64}
 use Rattle.hmac_tag.specs.Hmac.{hmac_of, hmac_under}
 use Rattle.sha2.proofs.Facts256.{length-sha256}
 use Rattle.attest_report.specs.declared.report.Report.{Report}
-use Rattle.attest_report.specs.Report.{IsReport, report_bytes, signed_bytes}
+use Rattle.attest_report.specs.Report.{IsReport, field_bytes}
 
 pub length-hmac_of : (key text : List ℕ) → length (hmac_of key text) ≡ 32
 unfolding hmac_of hmac_under
 length-hmac_of key text = length-sha256 _
 
--- 126 bytes are signed
-pub length-signed_bytes : (report : Report) → IsReport report → length (signed_bytes report) ≡ 126
-unfolding signed_bytes
-length-signed_bytes report is =
+-- the fields have 125 bytes
+pub length-field_bytes : (report : Report) → IsReport report → length (field_bytes report) ≡ 125
+unfolding field_bytes
+length-field_bytes report is =
     simp (length-append) (omega (arith, is.measurement, is.input_digest, is.output_digest, is.nonce))
 
--- eight pieces make the bytes that are signed
-pub signed_put : (report : Report) (count number first second third fourth fifth sixth seventh bytes : List ℕ) →
+-- seven pieces make the fields
+pub fields_put : (report : Report) (count number first second third fourth fifth sixth bytes : List ℕ) →
     length report.measurement ≡ 32 → length report.input_digest ≡ 32 → length report.output_digest ≡ 32 → length report.nonce ≡ 16 →
-    length bytes ≡ 126 → count ≡ to_le_bytes w64 report.retired → number ≡ to_le_bytes w32 report.code →
-    take 1 first ≡ 0x01 ∷ [] →
-    take (1 + length report.measurement) second ≡ take 1 first ++ report.measurement →
-    take (33 + length report.input_digest) third ≡ take 33 second ++ report.input_digest →
-    take (65 + length report.output_digest) fourth ≡ take 65 third ++ report.output_digest →
-    take (97 + length count) fifth ≡ take 97 fourth ++ count →
-    take 106 sixth ≡ take 105 fifth ++ report.ending ∷ [] →
-    take (106 + length number) seventh ≡ take 106 sixth ++ number →
-    take (110 + length report.nonce) bytes ≡ take 110 seventh ++ report.nonce →
-    bytes ≡ signed_bytes report
-unfolding signed_bytes
-signed_put report count number first second third fourth fifth sixth seventh bytes m i o n whole is_count is_number a b c d e f g h =
+    length bytes ≡ 125 → count ≡ to_le_bytes w64 report.retired → number ≡ to_le_bytes w32 report.code →
+    take (0 + length report.measurement) first ≡ report.measurement →
+    take (32 + length report.input_digest) second ≡ take 32 first ++ report.input_digest →
+    take (64 + length report.output_digest) third ≡ take 64 second ++ report.output_digest →
+    take (96 + length count) fourth ≡ take 96 third ++ count →
+    take 105 fifth ≡ take 104 fourth ++ report.ending ∷ [] →
+    take (105 + length number) sixth ≡ take 105 fifth ++ number →
+    take (109 + length report.nonce) bytes ≡ take 109 sixth ++ report.nonce →
+    bytes ≡ field_bytes report
+unfolding field_bytes
+fields_put report count number first second third fourth fifth sixth bytes m i o n whole is_count is_number a b c d e f g =
     let eight : length count ≡ 8 = ap length is_count in
     let four : length number ≡ 4 = ap length is_number in
-    let to_second : take 33 second ≡ 0x01 ∷ [] ++ report.measurement = put_behind 1 33 report.measurement first second _ b (omega arith) a in
-    let to_third : take 65 third ≡ 0x01 ∷ [] ++ report.measurement ++ report.input_digest =
-    put_behind 33 65 report.input_digest second third _ c (omega arith) to_second in
-    let to_fourth : take 97 fourth ≡ 0x01 ∷ [] ++ report.measurement ++ report.input_digest ++ report.output_digest =
-    put_behind 65 97 report.output_digest third fourth _ d (omega arith) to_third in
-    let to_fifth : take 105 fifth ≡ 0x01 ∷ [] ++ report.measurement ++ report.input_digest ++ report.output_digest ++ count =
-    put_behind 97 105 count fourth fifth _ e (omega arith) to_fourth in
-    let to_sixth : take 106 sixth ≡ 0x01 ∷ [] ++ report.measurement ++ report.input_digest ++ report.output_digest ++ count ++ report.ending ∷ [] =
-    put_behind 105 106 (report.ending ∷ []) fifth sixth _ f refl to_fifth in
-    let to_seventh : take 110 seventh ≡ 0x01 ∷ [] ++ report.measurement ++ report.input_digest ++ report.output_digest ++ count ++ report.ending ∷ [] ++ number =
-    put_behind 106 110 number sixth seventh _ g (omega arith) to_sixth in
-    let to_end : take 126 bytes ≡ 0x01 ∷ [] ++ report.measurement ++ report.input_digest ++ report.output_digest ++ count ++ report.ending ∷ [] ++ number ++ report.nonce =
-    put_behind 110 126 report.nonce seventh bytes _ h (omega arith) to_seventh in
-    sym (take_all 126 bytes (omega arith)) ∙ to_end
-    ∙ ap (λ (xs : List ℕ). 0x01 ∷ [] ++ report.measurement ++ report.input_digest ++ report.output_digest ++ xs ++ report.ending ∷ [] ++ number ++ report.nonce) is_count
-    ∙ ap (λ (xs : List ℕ). 0x01 ∷ [] ++ report.measurement ++ report.input_digest ++ report.output_digest ++ to_le_bytes w64 report.retired ++ report.ending ∷ [] ++ xs ++ report.nonce) is_number
+    let ends : 32 ≡ 0 + length report.measurement = omega arith in
+    let to_first : take 32 first ≡ report.measurement = ap (λ (k : ℕ). take k first) ends ∙ a in
+    let to_second : take 64 second ≡ report.measurement ++ report.input_digest =
+    put_behind 32 64 report.input_digest first second _ b (omega arith) to_first in
+    let to_third : take 96 third ≡ report.measurement ++ report.input_digest ++ report.output_digest =
+    put_behind 64 96 report.output_digest second third _ c (omega arith) to_second in
+    let to_fourth : take 104 fourth ≡ report.measurement ++ report.input_digest ++ report.output_digest ++ count =
+    put_behind 96 104 count third fourth _ d (omega arith) to_third in
+    let to_fifth : take 105 fifth ≡ report.measurement ++ report.input_digest ++ report.output_digest ++ count ++ report.ending ∷ [] =
+    put_behind 104 105 (report.ending ∷ []) fourth fifth _ e refl to_fourth in
+    let to_sixth : take 109 sixth ≡ report.measurement ++ report.input_digest ++ report.output_digest ++ count ++ report.ending ∷ [] ++ number =
+    put_behind 105 109 number fifth sixth _ f (omega arith) to_fifth in
+    let to_end : take 125 bytes ≡ report.measurement ++ report.input_digest ++ report.output_digest ++ count ++ report.ending ∷ [] ++ number ++ report.nonce =
+    put_behind 109 125 report.nonce sixth bytes _ g (omega arith) to_sixth in
+    sym (take_all 125 bytes (omega arith)) ∙ to_end
+    ∙ ap (λ (xs : List ℕ). report.measurement ++ report.input_digest ++ report.output_digest ++ xs ++ report.ending ∷ [] ++ number ++ report.nonce) is_count
+    ∙ ap (λ (xs : List ℕ). report.measurement ++ report.input_digest ++ report.output_digest ++ to_le_bytes w64 report.retired ++ report.ending ∷ [] ++ xs ++ report.nonce) is_number
 
--- two pieces make a report
-pub report_put : (report : Report) (key signed tag first bytes : List ℕ) →
-    signed ≡ signed_bytes report → tag ≡ hmac_of key signed → length signed ≡ 126 → length tag ≡ 32 → length bytes ≡ 158 →
-    take (0 + length signed) first ≡ signed → take (126 + length tag) bytes ≡ take 126 first ++ tag →
-    bytes ≡ report_bytes report key
-unfolding report_bytes
-report_put report key signed tag first bytes is_signed is_tag long tag_long whole a b =
-    let ends : 126 ≡ 0 + length signed = omega arith in
-    let to_first : take 126 first ≡ signed = ap (λ (n : ℕ). take n first) ends ∙ a in
-    let to_end : take 158 bytes ≡ signed ++ tag = put_behind 126 158 tag first bytes _ b (omega arith) to_first in
-    sym (take_all 158 bytes (omega arith)) ∙ to_end ∙ ap (λ (xs : List ℕ). signed ++ xs) is_tag
-    ∙ ap (λ (xs : List ℕ). xs ++ hmac_of key xs) is_signed
+-- two pieces make bytes
+pub two_put : (at until : ℕ) (head rest first bytes : List ℕ) →
+    length head ≡ at → at + length rest ≡ until → length bytes ≡ until →
+    take (0 + length head) first ≡ head → take (at + length rest) bytes ≡ take at first ++ rest → bytes ≡ head ++ rest
+two_put at until head rest first bytes long ends whole a b =
+    let starts : at ≡ 0 + length head = omega arith in
+    let to_first : take at first ≡ head = ap (λ (n : ℕ). take n first) starts ∙ a in
+    sym (take_all until bytes (omega arith)) ∙ put_behind at until rest first bytes _ b (sym ends) to_first
 
 -- a field behind a front part
 field_behind : (at n until : ℕ) (bytes front piece : List ℕ) →
@@ -78,24 +74,21 @@ byte_field : (bytes : List ℕ) (at : ℕ) → at < length bytes → slice_index
 byte_field bytes at inside = rw (drop_more bytes at 0 inside) refl
 
 -- the fields that were taken are put back
-pub written_back : (bytes count number : List ℕ) (report : Report) →
-    length bytes ≡ 158 → slice_index bytes 0 ≡ 1 →
-    report.measurement ≡ take 32 (drop 1 bytes) → report.input_digest ≡ take 32 (drop 33 bytes) →
-    report.output_digest ≡ take 32 (drop 65 bytes) → count ≡ take 8 (drop 97 bytes) → to_le_bytes w64 report.retired ≡ count →
-    report.ending ≡ slice_index bytes 105 → number ≡ take 4 (drop 106 bytes) → to_le_bytes w32 report.code ≡ number →
-    report.nonce ≡ take 16 (drop 110 bytes) →
-    signed_bytes report ≡ take 126 bytes
-unfolding signed_bytes
-written_back bytes count number report long version m i o is_count r e is_number c n =
-    let first : 0x01 ∷ [] ≡ take 1 bytes = ap (λ (x : ℕ). x ∷ []) (sym version) ∙ byte_field bytes 0 (omega arith) in
-    let second = field_behind 1 32 33 bytes _ report.measurement refl first m in
-    let third = field_behind 33 32 65 bytes _ report.input_digest refl second i in
-    let fourth = field_behind 65 32 97 bytes _ report.output_digest refl third o in
-    let fifth = field_behind 97 8 105 bytes _ (to_le_bytes w64 report.retired) refl fourth (r ∙ is_count) in
-    let ending : report.ending ∷ [] ≡ take 1 (drop 105 bytes) = ap (λ (x : ℕ). x ∷ []) e ∙ byte_field bytes 105 (omega arith) in
-    let sixth = field_behind 105 1 106 bytes _ (report.ending ∷ []) refl fifth ending in
-    let seventh = field_behind 106 4 110 bytes _ (to_le_bytes w32 report.code) refl sixth (c ∙ is_number) in
-    field_behind 110 16 126 bytes _ report.nonce refl seventh n
+pub written_back : (bytes count number : List ℕ) (report : Report) → length bytes ≡ 125 →
+    report.measurement ≡ take 32 bytes → report.input_digest ≡ take 32 (drop 32 bytes) →
+    report.output_digest ≡ take 32 (drop 64 bytes) → count ≡ take 8 (drop 96 bytes) → to_le_bytes w64 report.retired ≡ count →
+    report.ending ≡ slice_index bytes 104 → number ≡ take 4 (drop 105 bytes) → to_le_bytes w32 report.code ≡ number →
+    report.nonce ≡ take 16 (drop 109 bytes) →
+    field_bytes report ≡ bytes
+unfolding field_bytes
+written_back bytes count number report long m i o is_count r e is_number c n =
+    let second = field_behind 32 32 64 bytes _ report.input_digest refl m i in
+    let third = field_behind 64 32 96 bytes _ report.output_digest refl second o in
+    let fourth = field_behind 96 8 104 bytes _ (to_le_bytes w64 report.retired) refl third (r ∙ is_count) in
+    let ending : report.ending ∷ [] ≡ take 1 (drop 104 bytes) = ap (λ (x : ℕ). x ∷ []) e ∙ byte_field bytes 104 (omega arith) in
+    let fifth = field_behind 104 1 105 bytes _ (report.ending ∷ []) refl fourth ending in
+    let sixth = field_behind 105 4 109 bytes _ (to_le_bytes w32 report.code) refl fifth (c ∙ is_number) in
+    field_behind 109 16 125 bytes _ report.nonce refl sixth n ∙ take_all 125 bytes (omega arith)
 
 -- a field has bytes
 field_fits : (bytes : List ℕ) (at n i : ℕ) → ((k : ℕ) → slice_index bytes k < 256) → slice_index (take n (drop at bytes)) i < 256
@@ -143,18 +136,17 @@ same_fields first second m i o r e c n =
     ∙ ap (λ (x : ℕ). record second { code = x; nonce = first.nonce }) c
     ∙ ap (λ (x : List ℕ). record second { nonce = x }) n
 
--- what is signed tells the report
-pub signed_apart : (first second : Report) → IsReport first → IsReport second → signed_bytes first ≡ signed_bytes second → first ≡ second
-unfolding signed_bytes
-signed_apart first second is other same =
+-- the fields tell the report
+pub fields_apart : (first second : Report) → IsReport first → IsReport second → field_bytes first ≡ field_bytes second → first ≡ second
+unfolding field_bytes
+fields_apart first second is other same =
     let nonce = peel 16 _ _ first.nonce second.nonce is.nonce other.nonce same in
     let code = peel 4 _ _ (to_le_bytes w32 first.code) (to_le_bytes w32 second.code) refl refl nonce.0 in
     let ending = peel 1 _ _ (first.ending ∷ []) (second.ending ∷ []) refl refl code.0 in
     let retired = peel 8 _ _ (to_le_bytes w64 first.retired) (to_le_bytes w64 second.retired) refl refl ending.0 in
     let output = peel 32 _ _ first.output_digest second.output_digest is.output_digest other.output_digest retired.0 in
-    let input = peel 32 _ _ first.input_digest second.input_digest is.input_digest other.input_digest output.0 in
-    let measurement = peel 32 (0x01 ∷ []) (0x01 ∷ []) first.measurement second.measurement is.measurement other.measurement input.0 in
-    same_fields first second measurement.1 input.1 output.1
+    let input = peel 32 first.measurement second.measurement first.input_digest second.input_digest is.input_digest other.input_digest output.0 in
+    same_fields first second input.0 input.1 output.1
     (number_64 first.retired second.retired is.retired other.retired retired.1)
     (ap (λ (xs : List ℕ). slice_index xs 0) ending.1)
     (number_32 first.code second.code is.code other.code code.1)

@@ -1,3 +1,4 @@
 pub mod Fields
 pub mod Texts
+pub mod Versions
 pub mod Verdicts

@@ -1,5 +1,5 @@
 -- The digits of a report.
-use Rattle.std.proofs.Common.{◌≡◌, ℕ, ◌+◌, ◌-◌, ◌<◌, Bool, true, false, nat_eq, List, [], ◌∷◌, length, drop, get_or, Result, Ok, Err, Some, None, refl, sym, ap, ◌∙◌, inl, inr, arith}
+use Rattle.std.proofs.Common.{◌≡◌, ℕ, ◌+◌, ◌-◌, ◌*◌, ◌<◌, Bool, true, false, nat_eq, List, [], ◌∷◌, length, drop, get_or, Result, Ok, Err, Some, None, refl, sym, ap, ◌∙◌, ◌⊎◌, inl, inr, arith}
 use Rattle.std.specs.Prelude.{is_ok}
 use Rattle.std.specs.Result.{result_err}
 use Rattle.std.specs.List.{AllPass, list_all, ends_with}
@@ -41,19 +41,25 @@ read_back bytes digits some fit is =
     let same : without_line_feed digits ≡ digits = without-digits digits (omega (arith, ok.2)) ok.1 in
     ap decode_of same ∙ decoded
 
-digits_refusal-none : (digits : List ℕ) → length digits ≡ 316 → list_all is_hex_digit digits ≡ true → digits_refusal digits ≡ None
-unfolding digits_refusal
-digits_refusal-none digits long all = rw (long, all) refl
+-- bytes that are as many as a report of either version has
+abbrev pub IsReportLen : ℕ → Type 0
+IsReportLen n = (n ≡ 158) ⊎ (n ≡ 159)
 
-digits_refusal-digit : (digits : List ℕ) → length digits ≡ 316 → list_all is_hex_digit digits ≡ false → digits_refusal digits ≡ Some Digit
+digits_refusal-none : (digits : List ℕ) (n : ℕ) → IsReportLen n → length digits ≡ 2 * n → list_all is_hex_digit digits ≡ true → digits_refusal digits ≡ None
 unfolding digits_refusal
-digits_refusal-digit digits long not_all = rw (long, not_all) refl
+digits_refusal-none digits n (inl first) twice all = let long : length digits ≡ 316 = omega arith in rw (long, all) refl
+digits_refusal-none digits n (inr second) twice all = let long : length digits ≡ 318 = omega arith in rw (long, all) refl
+
+digits_refusal-digit : (digits : List ℕ) (n : ℕ) → IsReportLen n → length digits ≡ 2 * n → list_all is_hex_digit digits ≡ false → digits_refusal digits ≡ Some Digit
+unfolding digits_refusal
+digits_refusal-digit digits n (inl first) twice not_all = let long : length digits ≡ 316 = omega arith in rw (long, not_all) refl
+digits_refusal-digit digits n (inr second) twice not_all = let long : length digits ≡ 318 = omega arith in rw (long, not_all) refl
 
 -- bytes decode to what is no refusal
-pub digits_refusal-read : (digits bytes : List ℕ) → length bytes ≡ 158 → decode_of digits ≡ Ok bytes → digits_refusal digits ≡ None
+pub digits_refusal-read : (digits bytes : List ℕ) → IsReportLen (length bytes) → decode_of digits ≡ Ok bytes → digits_refusal digits ≡ None
 digits_refusal-read digits bytes long decoded =
     let ok = decode_of-ok digits bytes decoded in
-    digits_refusal-none digits (omega (arith, ok.2, long)) (list_all-from_AllPass is_hex_digit digits ok.1)
+    digits_refusal-none digits (length bytes) long ok.2 (list_all-from_AllPass is_hex_digit digits ok.1)
 
 result_err-ok : (read : Result (List ℕ) ReportError) → is_ok read ≡ true → result_err read ≡ None
 result_err-ok (Ok bytes) ok = refl
@@ -64,20 +70,20 @@ result_err-digit : (read : Result (List ℕ) ReportError) → is_ok read ≡ fal
 result_err-digit (Ok bytes) refused is = cc refused
 result_err-digit (Err error) refused is = ap Some (is error refl)
 
--- 316 bytes are refused exactly where they don't decode
-pub read_refused : (digits : List ℕ) (read : Result (List ℕ) ReportError) →
-    length digits ≡ 316 → is_ok read ≡ is_ok (decode_sized digits 158) → ((error : ReportError) → read ≡ Err error → error ≡ Digit)
+-- as many digits as a report has are refused exactly where they don't decode
+pub read_refused : (digits : List ℕ) (n : ℕ) (read : Result (List ℕ) ReportError) → IsReportLen n →
+    length digits ≡ 2 * n → is_ok read ≡ is_ok (decode_sized digits n) → ((error : ReportError) → read ≡ Err error → error ≡ Digit)
     → result_err read ≡ digits_refusal digits
-read_refused digits read long same is =
+read_refused digits n read version long same is =
     elim (cases_Bool (list_all is_hex_digit digits)) [
       | inl all ↦
-          let ok : is_ok (decode_sized digits 158) ≡ true = (IsOk-decode_sized digits 158).1 (long, AllPass-from_list_all is_hex_digit digits all) in
-          result_err-ok read (same ∙ ok) ∙ sym (digits_refusal-none digits long all)
+          let ok : is_ok (decode_sized digits n) ≡ true = (IsOk-decode_sized digits n).1 (long, AllPass-from_list_all is_hex_digit digits all) in
+          result_err-ok read (same ∙ ok) ∙ sym (digits_refusal-none digits n version long all)
       | inr not_all ↦
           elim (cases_Bool (is_ok read)) [
             | inl ok ↦
-                let are = ((IsOk-decode_sized digits 158).0 (sym same ∙ ok)).1 in
+                let are = ((IsOk-decode_sized digits n).0 (sym same ∙ ok)).1 in
                 cc (sym not_all ∙ list_all-from_AllPass is_hex_digit digits are)
-            | inr refused ↦ result_err-digit read refused is ∙ sym (digits_refusal-digit digits long not_all)
+            | inr refused ↦ result_err-digit read refused is ∙ sym (digits_refusal-digit digits n version long not_all)
           ]
     ]

@@ -1,3 +1,4 @@
+pub mod ToldLayout
 pub mod Report
 pub mod ToldEnding
 pub mod Text

@@ -1,5 +1,5 @@
 -- The four refusals of a text, in the order in which they are tested.
-use Rattle.std.specs.Prelude.{◌==◌, ℕ, List, [], length, take, drop, slice_index, codes, not, Option, Some, None, if◌then◌else◌}
+use Rattle.std.specs.Prelude.{◌==◌, ℕ, ◌-◌, List, [], length, take, drop, slice_index, codes, Bool, not, ◌&&◌, ◌||◌, Option, Some, None, if◌then◌else◌}
 use Rattle.std.specs.List.{list_all}
 use Rattle.std.specs.Option.{option_or}
 use Rattle.std.specs.Str.{bytes_eq}
@@ -28,18 +28,29 @@ report_error_code Tag = 4
 abbrev pub bytes_of_digits : List ℕ → List ℕ
 bytes_of_digits digits = result_unwrap_or (decode_of digits) []
 
--- the refusal of what isn't 316 digits, of either case
+-- the refusal of what isn't 316 or 318 digits, of either case
 unfoldable pub digits_refusal : List ℕ → Option ReportError
 digits_refusal digits =
-    if not (length digits == 316) then Some Length
+    if not (length digits == 316 || length digits == 318) then Some Length
     else if not (list_all is_hex_digit digits) then Some Digit
     else None
 
--- the refusal of bytes of another version, or whose last 32 aren't the HMAC of the 126 before them
+-- whether bytes begin as their version does: 158 with 01, and 159 with 02 and the number of a layout
+unfoldable pub has_version : List ℕ → Bool
+has_version bytes =
+    if length bytes == 158 then slice_index bytes 0 == 1
+    else slice_index bytes 0 == 2 && (slice_index bytes 1 == 1 || slice_index bytes 1 == 2)
+
+-- whether the last 32 bytes are the HMAC of those before them
+unfoldable pub is_signed : List ℕ → List ℕ → Bool
+is_signed bytes key =
+    bytes_eq (drop (length bytes - 32) bytes) (hmac_of key (take (length bytes - 32) bytes))
+
+-- the refusal of bytes of another version, or with another tag
 unfoldable pub bytes_refusal : List ℕ → List ℕ → Option ReportError
 bytes_refusal bytes key =
-    if not (slice_index bytes 0 == 1) then Some Version
-    else if not (bytes_eq (drop 126 bytes) (hmac_of key (take 126 bytes))) then Some Tag
+    if not (has_version bytes) then Some Version
+    else if not (is_signed bytes key) then Some Tag
     else None
 
 -- the first refusal of a text that holds

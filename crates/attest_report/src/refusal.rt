@@ -7,16 +7,16 @@ use thiserror::Error;
 /// Why a text is refused, in the order in which it is tested. Shown as its name.
 #[derive(Clone, Copy, Debug, PartialEq, Eq, Error)]
 pub enum ReportError {
-    /// Without a line feed at its end it hasn't 316 bytes.
+    /// Without a line feed at its end it has neither 316 bytes nor 318.
     #[error("Length")]
     Length = 1,
     /// One of them is no digit.
     #[error("Digit")]
     Digit = 2,
-    /// Its first byte isn't 01.
+    /// Of 316 digits the first byte isn't 01, or of 318 the first two aren't 02 and a layout's number.
     #[error("Version")]
     Version = 3,
-    /// Its tag isn't the HMAC of its fields under this key.
+    /// Its tag isn't the HMAC of the bytes before it under this key.
     #[error("Tag")]
     Tag = 4,
 }

@@ -1,10 +1,11 @@
 // What a report says, and the bytes that say it.
 ghost use Rattle.attest_report.specs.Report as spec;
-ghost use Rattle.attest_report.specs.Report.{IsReport, signed_bytes};
-ghost use Rattle.std.specs.Prelude.{◌≡◌, ◌+◌, ◌≤◌, drop, slice_index, take};
+ghost use Rattle.attest_report.specs.Report.{IsReport, field_bytes, signed_bytes, signed2_bytes};
+ghost use Rattle.std.specs.Prelude.{◌≡◌, ◌+◌, ◌≤◌, drop, length, take};
 
+use crate::layout::layout_number;
 use hmac_tag::hmac;
-use sec_base::put;
+use sec_base::{Layout, put};
 
 /// What a run was.
 #[derive(Clone, Copy, Debug, PartialEq, Eq)]
@@ -25,32 +26,55 @@ pub struct Report {
     pub nonce: [u8; 16],
 }
 
-/// The first byte of a report.
+/// A report as it was signed.
+#[derive(Clone, Copy, Debug, PartialEq, Eq)]
+pub struct Signed {
+    /// What the run was.
+    pub report: Report,
+    /// The layout of the tree's nodes, which version 2 names and version 1 doesn't.
+    pub layout: Option<Layout>,
+}
+
+/// The first byte of version 1.
 pub(crate) const VERSION: u8 = 1;
 
-// Where each field begins.
-const MEASUREMENT_AT: usize = 1;
+/// The first byte of version 2.
+pub(crate) const VERSION2: u8 = 2;
 
-const INPUT_DIGEST_AT: usize = 33;
+// Where each field begins, behind the version and the layout.
+const MEASUREMENT_AT: usize = 0;
 
-const OUTPUT_DIGEST_AT: usize = 65;
+const INPUT_DIGEST_AT: usize = 32;
 
-const RETIRED_AT: usize = 97;
+const OUTPUT_DIGEST_AT: usize = 64;
 
-const ENDING_AT: usize = 105;
+const RETIRED_AT: usize = 96;
 
-const CODE_AT: usize = 106;
+const ENDING_AT: usize = 104;
 
-const NONCE_AT: usize = 110;
+const CODE_AT: usize = 105;
 
-/// How many bytes are signed; their HMAC begins here.
-pub(crate) const SIGNED_LEN: usize = 126;
+const NONCE_AT: usize = 109;
 
-/// How many bytes a report has.
+/// How many bytes the fields have.
+pub(crate) const FIELDS_LEN: usize = 125;
+
+// How many bytes each version signs; their HMAC begins here.
+const SIGNED_LEN: usize = 126;
+
+const SIGNED2_LEN: usize = 127;
+
+/// How many bytes an HMAC has.
+pub(crate) const TAG_LEN: usize = 32;
+
+/// How many bytes a report of version 1 has.
 pub(crate) const REPORT_LEN: usize = 158;
 
-/// The bytes of a report: the version 01, the three digests, the retired count as u64, the ending, the code as u32, the
-/// lowest byte first, the nonce, and the HMAC-SHA-256 of all these under the key.
+/// How many bytes a report of version 2 has.
+pub(crate) const REPORT2_LEN: usize = 159;
+
+/// The bytes of version 1: 01, the three digests, the retired count as u64, the ending, the code as u32, the lowest byte
+/// first, the nonce, and the HMAC-SHA-256 of all these under the key.
 #[tactic(auto, unfolding(crate::specs::Report::report_bytes))]
 pub fn report_bytes(report: &Report, key: &[u8; 32]) -> [u8; 158]
     ensures { result ≡ spec.report_bytes report.now key.now }
@@ -62,12 +86,44 @@ pub fn report_bytes(report: &Report, key: &[u8; 32]) -> [u8; 158]
     bytes
 }
 
-// The bytes that are signed.
+/// The bytes of version 2: 02, the number of the layout, the fields as in version 1, and the HMAC-SHA-256 of all these
+/// under the key.
+#[tactic(auto, unfolding(crate::specs::Report::report2_bytes))]
+pub fn report2_bytes(report: &Report, layout: Layout, key: &[u8; 32]) -> [u8; 159]
+    ensures { result ≡ spec.report2_bytes report.now layout key.now }
+{
+    let signed = signed2_bytes(report, layout);
+    let mut bytes = [0; REPORT2_LEN];
+    put(&mut bytes, 0, &signed);
+    put(&mut bytes, SIGNED2_LEN, &hmac(key, &signed));
+    bytes
+}
+
+// The bytes that version 1 signs.
 fn signed_bytes(report: &Report) -> [u8; 126]
     ensures { result ≡ signed_bytes report.now }
 {
     let mut bytes = [0; SIGNED_LEN];
     put(&mut bytes, 0, &[VERSION]);
+    put(&mut bytes, 1, &field_bytes(report));
+    bytes
+}
+
+// The bytes that version 2 signs.
+fn signed2_bytes(report: &Report, layout: Layout) -> [u8; 127]
+    ensures { result ≡ signed2_bytes report.now layout }
+{
+    let mut bytes = [0; SIGNED2_LEN];
+    put(&mut bytes, 0, &[VERSION2, layout_number(layout)]);
+    put(&mut bytes, 2, &field_bytes(report));
+    bytes
+}
+
+// The bytes of the fields.
+fn field_bytes(report: &Report) -> [u8; 125]
+    ensures { result ≡ field_bytes report.now }
+{
+    let mut bytes = [0; FIELDS_LEN];
     put(&mut bytes, MEASUREMENT_AT, &report.measurement);
     put(&mut bytes, INPUT_DIGEST_AT, &report.input_digest);
     put(&mut bytes, OUTPUT_DIGEST_AT, &report.output_digest);
@@ -78,26 +134,25 @@ fn signed_bytes(report: &Report) -> [u8; 126]
     bytes
 }
 
-/// The report that these bytes begin with.
-pub(crate) fn report_of(bytes: &[u8; 158]) -> Report
-    requires { slice_index bytes.now 0 ≡ 1 }
-    ensures written_back { signed_bytes result ≡ take 126 bytes.now }
+/// The report of these fields.
+pub(crate) fn report_of(fields: &[u8; 125]) -> Report
+    ensures written_back { field_bytes result ≡ fields.now }
     ensures is_report { IsReport result }
 {
     Report {
-        measurement: field(bytes, MEASUREMENT_AT),
-        input_digest: field(bytes, INPUT_DIGEST_AT),
-        output_digest: field(bytes, OUTPUT_DIGEST_AT),
-        retired: u64::from_le_bytes(field(bytes, RETIRED_AT)),
-        ending: bytes[ENDING_AT],
-        code: u32::from_le_bytes(field(bytes, CODE_AT)),
-        nonce: field(bytes, NONCE_AT),
+        measurement: field(fields, MEASUREMENT_AT),
+        input_digest: field(fields, INPUT_DIGEST_AT),
+        output_digest: field(fields, OUTPUT_DIGEST_AT),
+        retired: u64::from_le_bytes(field(fields, RETIRED_AT)),
+        ending: fields[ENDING_AT],
+        code: u32::from_le_bytes(field(fields, CODE_AT)),
+        nonce: field(fields, NONCE_AT),
     }
 }
 
 /// The bytes of a field.
-pub(crate) fn field<const N: usize>(bytes: &[u8; 158], at: usize) -> [u8; N]
-    requires { at + N ≤ 158 }
+pub(crate) fn field<const N: usize>(bytes: &[u8], at: usize) -> [u8; N]
+    requires { at + N ≤ length bytes.now }
     ensures { result ≡ take N (drop at bytes.now) }
 {
     let mut field = [0; N];

@@ -1,8 +1,11 @@
 // The texts are from Python 3.11: its `struct`, `hashlib` and `hmac`.
 ghost use Rattle.std.specs.Prelude.{◌≤◌};
 
-use attest_report::{Report, ReportError, ending_and_code, report_bytes, verify, write_report};
-use sec_base::{Cause, Ending, Place};
+use attest_report::{
+    Report, ReportError, Signed, ending_and_code, layout_number, report_bytes, report2_bytes,
+    verify, write_report, write_report2,
+};
+use sec_base::{Cause, Ending, Layout, Place};
 use std::test::Fail;
 
 // The HMAC of `report` under the device key 00 01 02 .. 1f.
@@ -39,6 +42,52 @@ const EXIT_7_TEXT: &[u8; 316] = b"\
     0300000000000000000700000000000000000000000000000000000000\
     a479401f853b37d1c441ce4553c6f3583bba91d772f3dcafbc7b506825d4dd77";
 
+// The same run, whose tree has layout One.
+const EXIT_7_ONE_TEXT: &[u8; 318] = b"\
+    020116f50c65e5d32ef308c297c15f9cdae14c3f482dd9e03853348a497b7abe0a1a\
+    e3b0c44298fc1c149afbf4c8996fb92427ae41e4649b934ca495991b7852b855\
+    e3b0c44298fc1c149afbf4c8996fb92427ae41e4649b934ca495991b7852b855\
+    0300000000000000000700000000000000000000000000000000000000\
+    81e559c48eb173a699be68f86f6a16eaf31a8f353212150f6009039db0c6161c";
+
+// The same program in 2 MiB, whose tree has layout Two.
+const EXIT_7_IN_2_MIB: Report = Report {
+    measurement: [
+        0x8d, 0x5b, 0x9b, 0x9e, 0x53, 0x5a, 0x63, 0xc6, 0xce, 0x07, 0x4e, 0xa6, 0x85, 0x5f, 0x02,
+        0xa7, 0x3a, 0xf1, 0xb9, 0x73, 0xc7, 0x49, 0x47, 0x75, 0xa3, 0xa5, 0x54, 0x23, 0xc9, 0xe6,
+        0xe1, 0xbf,
+    ],
+    input_digest: EMPTY,
+    output_digest: EMPTY,
+    retired: 3,
+    ending: 0,
+    code: 7,
+    nonce: [0; 16],
+};
+
+const EXIT_7_TWO_TEXT: &[u8; 318] = b"\
+    02028d5b9b9e535a63c6ce074ea6855f02a73af1b973c7494775a3a55423c9e6e1bf\
+    e3b0c44298fc1c149afbf4c8996fb92427ae41e4649b934ca495991b7852b855\
+    e3b0c44298fc1c149afbf4c8996fb92427ae41e4649b934ca495991b7852b855\
+    0300000000000000000700000000000000000000000000000000000000\
+    c386227183193f3eb02daa84dbd2c05eaa81f4005bbf52481d54c288b6c0d6da";
+
+// A report of version 1.
+fn first_version(report: Report) -> Signed {
+    Signed {
+        report,
+        layout: None,
+    }
+}
+
+// A report of version 2.
+fn second_version(report: Report, layout: Layout) -> Signed {
+    Signed {
+        report,
+        layout: Some(layout),
+    }
+}
+
 // The bytes `first`, `first` + 1 and so on.
 fn counting<const N: usize>(first: u8) -> [u8; N]
     requires { N ≤ 256 }
@@ -50,9 +99,15 @@ fn counting<const N: usize>(first: u8) -> [u8; N]
     bytes
 }
 
-// The text of a report's bytes.
+// The text of a report's bytes of version 1.
 fn written(rt: &HostRuntime, bytes: &[u8; 158]) -> Result<Vec<u8>, Fail> {
     let text = write_report(rt.alloc(), bytes).ok().ok_or("no memory")?;
+    Ok(text.into_vec())
+}
+
+// The text of a report's bytes of version 2.
+fn written2(rt: &HostRuntime, bytes: &[u8; 159]) -> Result<Vec<u8>, Fail> {
+    let text = write_report2(rt.alloc(), bytes).ok().ok_or("no memory")?;
     Ok(text.into_vec())
 }
 
@@ -60,7 +115,21 @@ fn written(rt: &HostRuntime, bytes: &[u8; 158]) -> Result<Vec<u8>, Fail> {
 fn a_run_that_exits_with_7(rt: HostRuntime) -> Result<(), Fail> {
     let text = written(&rt, &report_bytes(&EXIT_7, &KEY))?;
     assert_eq!(rt; text.as_slice(), EXIT_7_TEXT.as_slice());
-    assert_eq!(rt; verify(EXIT_7_TEXT, &KEY), Ok(EXIT_7));
+    assert_eq!(rt; verify(EXIT_7_TEXT, &KEY), Ok(first_version(EXIT_7)));
+    Ok(())
+}
+
+#[test]
+fn version_2_names_the_layout(rt: HostRuntime) -> Result<(), Fail> {
+    let cases = [
+        (EXIT_7, Layout::One, EXIT_7_ONE_TEXT),
+        (EXIT_7_IN_2_MIB, Layout::Two, EXIT_7_TWO_TEXT),
+    ];
+    for (report, layout, expected) in cases {
+        let text = written2(&rt, &report2_bytes(&report, layout, &KEY))?;
+        assert_eq!(rt; text.as_slice(), expected.as_slice());
+        assert_eq!(rt; verify(expected, &KEY), Ok(second_version(report, layout)));
+    }
     Ok(())
 }
 
@@ -85,66 +154,125 @@ fn each_field_has_its_place(rt: HostRuntime) -> Result<(), Fail> {
         1292a4a06a71ddf3ed7fef377ee3a82353a2be49115f6a6e6dd4f5ec27e0f8f7";
     let text = written(&rt, &report_bytes(&report, &key))?;
     assert_eq!(rt; text.as_slice(), expected.as_slice());
-    assert_eq!(rt; verify(expected, &key), Ok(report));
+    assert_eq!(rt; verify(expected, &key), Ok(first_version(report)));
     Ok(())
+}
+
+// The text in capitals and with a line feed.
+fn shouted(rt: &HostRuntime, text: &[u8]) -> Result<Vec<u8>, Fail> {
+    let mut shouted = Vec::from_slice(rt.alloc(), text)?;
+    shouted.push(b'\n')?;
+    for digit in shouted.iter_mut() {
+        *digit = digit.to_ascii_uppercase();
+    }
+    Ok(shouted)
 }
 
 #[test]
 fn capitals_and_one_line_feed_are_taken(rt: HostRuntime) -> Result<(), Fail> {
-    let mut text = Vec::from_slice(rt.alloc(), EXIT_7_TEXT)?;
-    text.push(b'\n')?;
-    assert_eq!(rt; verify(text.as_slice(), &KEY), Ok(EXIT_7));
-    for digit in text.iter_mut() {
-        *digit = digit.to_ascii_uppercase();
-    }
-    assert_eq!(rt; verify(text.as_slice(), &KEY), Ok(EXIT_7));
+    let text = shouted(&rt, EXIT_7_TEXT)?;
+    assert_eq!(rt; verify(text.as_slice(), &KEY), Ok(first_version(EXIT_7)));
+    let text = shouted(&rt, EXIT_7_ONE_TEXT)?;
+    assert_eq!(rt;
+        verify(text.as_slice(), &KEY),
+        Ok(second_version(EXIT_7, Layout::One))
+    );
     Ok(())
 }
 
 // The text with another digit at a place.
-fn with_digit(at: usize, digit: u8) -> [u8; 316] {
-    let mut text = *EXIT_7_TEXT;
-    if at < 316 {
+fn with_digit(rt: &HostRuntime, text: &[u8], at: usize, digit: u8) -> Result<Vec<u8>, Fail> {
+    let mut text = Vec::from_slice(rt.alloc(), text)?;
+    if at < text.len() {
         text[at] = digit;
     }
-    text
+    Ok(text)
+}
+
+// The text and what stands behind it.
+fn with_end(rt: &HostRuntime, text: &[u8], end: &[u8]) -> Result<Vec<u8>, Fail> {
+    let mut longer = Vec::from_slice(rt.alloc(), text)?;
+    longer.extend_from_slice(end)?;
+    Ok(longer)
+}
+
+#[test]
+fn other_lengths_are_refused(rt: HostRuntime) -> Result<(), Fail> {
+    let cases: [(&[u8], &[u8]); 11] = [
+        (b"", b""),
+        (b"", b"\n"),
+        (b"", b"g"),
+        (&EXIT_7_TEXT[..315], b""),
+        // The last digit is a line feed, which is dropped.
+        (&EXIT_7_TEXT[..315], b"\n"),
+        (EXIT_7_TEXT, b"\n\n"),
+        (EXIT_7_TEXT, b"0"),
+        (&EXIT_7_ONE_TEXT[..317], b""),
+        (&EXIT_7_ONE_TEXT[..317], b"\n"),
+        (EXIT_7_ONE_TEXT, b"\n\n"),
+        (EXIT_7_ONE_TEXT, b"0"),
+    ];
+    for (text, end) in cases {
+        let text = with_end(&rt, text, end)?;
+        assert_eq!(rt; verify(text.as_slice(), &KEY), Err(ReportError::Length));
+    }
+    Ok(())
 }
 
 #[test]
 fn the_first_refusal_is_told(rt: HostRuntime) -> Result<(), Fail> {
-    let mut long = Vec::from_slice(rt.alloc(), EXIT_7_TEXT)?;
-    long.push(b'\n')?;
-    long.push(b'\n')?;
-    let cases: [(&[u8], ReportError); 12] = [
-        (&[], ReportError::Length),
-        (b"\n", ReportError::Length),
-        (&EXIT_7_TEXT[..315], ReportError::Length),
-        (b"g", ReportError::Length),
-        // The last digit is a line feed, which is dropped.
-        (&with_digit(315, b'\n'), ReportError::Length),
-        (long.as_slice(), ReportError::Length),
-        (&with_digit(315, b'g'), ReportError::Digit),
-        (&with_digit(1, b'/'), ReportError::Digit),
-        (&with_digit(0, b'\n'), ReportError::Digit),
-        (&with_digit(1, b'2'), ReportError::Version),
-        (&with_digit(0, b'8'), ReportError::Version),
-        (&with_digit(315, b'6'), ReportError::Tag),
+    let cases: [(&[u8], usize, u8, ReportError); 16] = [
+        (EXIT_7_TEXT, 315, b'g', ReportError::Digit),
+        (EXIT_7_TEXT, 1, b'/', ReportError::Digit),
+        (EXIT_7_TEXT, 0, b'\n', ReportError::Digit),
+        (EXIT_7_TEXT, 1, b'2', ReportError::Version),
+        (EXIT_7_TEXT, 0, b'8', ReportError::Version),
+        (EXIT_7_TEXT, 315, b'6', ReportError::Tag),
+        (EXIT_7_ONE_TEXT, 317, b'g', ReportError::Digit),
+        (EXIT_7_ONE_TEXT, 3, b'g', ReportError::Digit),
+        (EXIT_7_ONE_TEXT, 1, b'1', ReportError::Version),
+        (EXIT_7_ONE_TEXT, 1, b'3', ReportError::Version),
+        (EXIT_7_ONE_TEXT, 3, b'0', ReportError::Version),
+        (EXIT_7_ONE_TEXT, 3, b'3', ReportError::Version),
+        (EXIT_7_ONE_TEXT, 2, b'1', ReportError::Version),
+        (EXIT_7_ONE_TEXT, 3, b'2', ReportError::Tag),
+        (EXIT_7_ONE_TEXT, 317, b'd', ReportError::Tag),
+        // The first 316 digits begin with 02.
+        (&EXIT_7_ONE_TEXT[..316], 1, b'2', ReportError::Version),
     ];
-    for (text, refusal) in cases {
-        assert_eq!(rt; verify(text, &KEY), Err(refusal));
+    for (text, at, digit, refusal) in cases {
+        let text = with_digit(&rt, text, at, digit)?;
+        assert_eq!(rt; verify(text.as_slice(), &KEY), Err(refusal));
     }
     assert_eq!(rt; verify(EXIT_7_TEXT, &EMPTY), Err(ReportError::Tag));
     Ok(())
 }
 
 #[test]
-fn each_byte_counts(rt: HostRuntime) -> Result<(), Fail> {
+fn each_byte_of_version_1_counts(rt: HostRuntime) -> Result<(), Fail> {
     let bytes = report_bytes(&EXIT_7, &KEY);
     for at in 0..158 {
         let mut changed = bytes;
         changed[at] ^= 1;
         let text = written(&rt, &changed)?;
         let refusal = if at == 0 {
+            ReportError::Version
+        } else {
+            ReportError::Tag
+        };
+        assert_eq!(rt; verify(text.as_slice(), &KEY), Err(refusal));
+    }
+    Ok(())
+}
+
+#[test]
+fn each_byte_of_version_2_counts(rt: HostRuntime) -> Result<(), Fail> {
+    let bytes = report2_bytes(&EXIT_7, Layout::One, &KEY);
+    for at in 0..159 {
+        let mut changed = bytes;
+        changed[at] ^= 1;
+        let text = written2(&rt, &changed)?;
+        let refusal = if at < 2 {
             ReportError::Version
         } else {
             ReportError::Tag
@@ -166,6 +294,12 @@ fn refusals_have_numbers_and_names(rt: HostRuntime) {
         assert_eq!(rt; refusal.code(), code);
         assert_eq!(rt; refusal.name(), name);
     }
+}
+
+#[test]
+fn layouts_have_numbers(rt: HostRuntime) {
+    assert_eq!(rt; layout_number(Layout::One), 1);
+    assert_eq!(rt; layout_number(Layout::Two), 2);
 }
 
 fn trapped(cause: Cause) -> Ending {

@@ -1,5 +1,5 @@
 use Rattle.std.proofs.Common.{rules}
-use Rattle.attest_report.proofs.Fields.{report_put}
+use Rattle.attest_report.proofs.Versions.{report_put}
 use Rattle.attest_report.proofs.report.report_bytes.Goals as goal
 
 pub returns : goal.returns
