@@ -1,8 +1,8 @@
 -- A command without a fault has the values that it can't do without.
-use Rattle.std.proofs.Common.{◌≡◌, ◌⊎◌, ◌<◌, ◌≤◌, ◌^◌, ◌&&◌, ap, arith, subst, ℕ, Bool, List, [], ◌∷◌, Option, Some, None, true, false, not, refl, sym, inl, inr, is_some, unwrap_or}
-use Rattle.std.specs.Prelude.{codes, find, ◌-◌}
+use Rattle.std.proofs.Common.{◌≡◌, ◌∙◌, ◌⊎◌, ◌<◌, ◌≤◌, ◌^◌, ◌&&◌, ap, arith, subst, ℕ, Bool, List, [], ◌∷◌, Option, Some, None, true, false, not, refl, sym, inl, inr, is_some, unwrap_or}
+use Rattle.std.specs.Prelude.{codes, find, slice_get, option_and_then, ◌-◌}
 use Rattle.std.specs.List.{list_any, slice_index_or}
-use Rattle.std.specs.Option.{option_map_or}
+use Rattle.std.specs.Option.{ForSome, option_map_or}
 use Rattle.std.specs.Str.{bytes_eq}
 use Rattle.std.specs.Str.Parse.{IsNumeral, without_leading_plus}
 use Rattle.clap.specs.Facts.{explicit_source, parser_of_value}
@@ -15,9 +15,9 @@ use Rattle.clap.specs.Faults.{check_fault, defaults_fault, entered_fault, level_
 use Rattle.clap.specs.declared.builder.value_parser.ValueParser.TheVariants.{Unsigned}
 use Rattle.clap.proofs.ValueTestLemmas.{accepts-Accepts}
 use Rattle.std.proofs.lemmas.Slice.Eq.{bytes_eq-Decides}
-use Rattle.chip_words.specs.App.{chip_app, file_rule, key_rule, levels_rule, nonce_rule, number_rule, page_limit_rule, steps_rule, tags_rule}
+use Rattle.chip_words.specs.App.{chip_app, file_rule, key_rule, layout_rule, levels_rule, nonce_rule, number_rule, page_limit_rule, steps_rule, tags_rule}
 use Rattle.chip_words.specs.Request.{number_of, numeral_value, value_of}
-use Rattle.chip_words.specs.Commands.{HasExecution, HasItsValues, HasNumber, HasProgram, HasProtectedRun, HasReport, HasValue, HasWorkload, IfCommand}
+use Rattle.chip_words.specs.Commands.{HasExecution, HasItsValues, HasNumber, HasProgram, HasProtectedRun, HasReport, HasValue, HasWorkload, IfCommand, IsWithin}
 use Rattle.chip_words.proofs.Walks.{IsNoHelp, both_empty}
 use Rattle.chip_words.proofs.Fits.{AllFit, HasSome, IsIn, Owns, defaults_have, finished_fits, first_passes, row_found, walk_fits}
 
@@ -88,6 +88,25 @@ required_passed s words a clean negates among required own takes =
     not_false true e = refl
     not_false false e = absurd cc
 
+row_of_first : (o : Option Row) (v : Text) → option_and_then (λ r. slice_get r.values 0) o ≡ Some v → (r : Row) × (o ≡ Some r)
+row_of_first None v e = absurd cc
+row_of_first (Some r) v e = (r, refl)
+
+-- an argument that may be left out has no other value than one that passes its parser
+if_named_passed : (s : Shape) (words : List Text) (a : Rule) → IsFaultless s words → arg_by_id s.rules a.id ≡ Some a → takes_values a ≡ true
+    → ForSome (first_of a.id (rows_after s.rules [] words)) (λ v. accepts a.ignore_case (parser_of_value a.parser) v ≡ true)
+if_named_passed s words a clean own takes v is =
+    let rows = rows_after s.rules [] words in
+    let row = row_of_first (find (λ r. bytes_eq r.id a.id) rows) v is in
+    let passed = first_passes s.rules a rows row.0 clean.fits row.1 own takes in
+    let same : Some passed.0 ≡ Some v = sym passed.1 ∙ is in
+    subst (λ (o : Option Text). accepts a.ignore_case (parser_of_value a.parser) (unwrap_or o v) ≡ true) same passed.2
+
+within_range : (least most : ℕ) (v : Text) → accepts false (Unsigned least most) v ≡ true → IsWithin least most v
+within_range least most v passed =
+    let within = accepts-Accepts false (Unsigned least most) v passed in
+    (within.0, (within.2, within.3))
+
 value_there : (id v : Text) (rows : List Row) → first_of id rows ≡ Some v → HasValue id rows
 value_there id v rows is = ap is_some is
 
@@ -104,6 +123,9 @@ number_there least most id v rows is passed =
 
 abbrev file_built : Rule
 file_built = with_index 1 (filled file_rule)
+
+abbrev layout_built : Rule
+layout_built = filled layout_rule
 
 abbrev levels_built : Rule
 levels_built = filled levels_rule
@@ -126,18 +148,20 @@ page_limit_built = filled page_limit_rule
 abbrev number_built : Rule
 number_built = with_index 1 (filled number_rule)
 
--- a command that takes a file and levels, whatever else it takes
+-- a command that takes a file, a layout and levels, whatever else it takes
 program_there : (s : Shape) (words : List Text) → IsFaultless s words → s.subcommand_negates_reqs ≡ false
     → IsIn file_built s.rules → arg_by_id s.rules (codes "file") ≡ Some file_built
-    → IsIn levels_built s.rules → arg_by_id s.rules (codes "levels") ≡ Some levels_built → HasProgram (rows_after s.rules [] words)
-program_there s words clean negates in_file own_file in_levels own_levels =
+    → IsIn layout_built s.rules → arg_by_id s.rules (codes "layout") ≡ Some layout_built
+    → arg_by_id s.rules (codes "levels") ≡ Some levels_built → HasProgram (rows_after s.rules [] words)
+program_there s words clean negates in_file own_file in_layout own_layout own_levels =
     let file = required_passed s words file_built clean negates in_file refl own_file refl in
-    let levels = default_passed s words levels_built clean in_levels tt own_levels refl in
-    let numbers = number_there 1 8 (codes "levels") levels.0 (rows_after s.rules [] words) levels.1 levels.2 in
+    let layout = default_passed s words layout_built clean in_layout tt own_layout refl in
+    let number = number_there 1 2 (codes "layout") layout.0 (rows_after s.rules [] words) layout.1 layout.2 in
     record {
       file = value_there (codes "file") file.0 (rows_after s.rules [] words) file.1;
-      levels = numbers.0;
-      bounds = numbers.1;
+      layout = number.0;
+      layouts = (number.0.1.0, number.1);
+      levels = λ v is. within_range 1 8 v (if_named_passed s words levels_built clean own_levels refl v is);
     }
 
 -- a command that runs the program that is there, whatever else it takes
@@ -153,14 +177,14 @@ execution_there s words clean program in_steps own_steps =
 abbrev pub run_built : Shape
 run_built = slice_index_or (built chip_app).subs 0 help_shape
 
-abbrev plain_built : Shape
+abbrev pub plain_built : Shape
 plain_built = slice_index_or (built chip_app).subs 1 help_shape
 
-abbrev asm_built : Shape
+abbrev pub asm_built : Shape
 asm_built = slice_index_or (built chip_app).subs 2 help_shape
 
 -- `dis` and `measure`, by their names
-abbrev inspection_built : Text → Shape
+abbrev pub inspection_built : Text → Shape
 inspection_built name = record (slice_index_or (built chip_app).subs 3 help_shape) { name = name }
 
 -- `verify`
@@ -171,25 +195,13 @@ abbrev bench_built : Shape
 bench_built = slice_index_or (built chip_app).subs 6 help_shape
 
 run_owns : Owns run_built.rules run_built.rules
-run_owns = (
-  (refl, λ takes. refl),
-  (
-    (refl, λ takes. absurd cc),
-    (
-      (refl, λ takes. refl),
-      ((refl, λ takes. refl), ((refl, λ takes. refl), ((refl, λ takes. refl), ((refl, λ takes. refl), ((refl, λ takes. refl), ((refl, λ takes. refl), ((refl, λ takes. refl), ((refl, λ takes. absurd cc), tt)))))))),
-    ),
-  ),
-)
+run_owns = ((refl, λ takes. refl), ((refl, λ takes. absurd cc), ((refl, λ takes. refl), ((refl, λ takes. refl), ((refl, λ takes. refl), ((refl, λ takes. refl), ((refl, λ takes. refl), ((refl, λ takes. refl), ((refl, λ takes. refl), ((refl, λ takes. refl), ((refl, λ takes. refl), ((refl, λ takes. absurd cc), tt))))))))))))
 
 plain_owns : Owns plain_built.rules plain_built.rules
-plain_owns = (
-  (refl, λ takes. refl),
-  ((refl, λ takes. absurd cc), ((refl, λ takes. refl), ((refl, λ takes. refl), ((refl, λ takes. refl), ((refl, λ takes. absurd cc), tt))))),
-)
+plain_owns = ((refl, λ takes. refl), ((refl, λ takes. absurd cc), ((refl, λ takes. refl), ((refl, λ takes. refl), ((refl, λ takes. refl), ((refl, λ takes. refl), ((refl, λ takes. absurd cc), tt)))))))
 
 asm_owns : Owns asm_built.rules asm_built.rules
-asm_owns = ((refl, λ takes. refl), ((refl, λ takes. refl), ((refl, λ takes. absurd cc), tt)))
+asm_owns = ((refl, λ takes. refl), ((refl, λ takes. refl), ((refl, λ takes. refl), ((refl, λ takes. absurd cc), tt))))
 
 verify_owns : Owns verify_built.rules verify_built.rules
 verify_owns = ((refl, λ takes. refl), ((refl, λ takes. refl), ((refl, λ takes. absurd cc), tt)))
@@ -198,19 +210,19 @@ bench_owns : Owns bench_built.rules bench_built.rules
 bench_owns = ((refl, λ takes. refl), ((refl, λ takes. absurd cc), tt))
 
 inspection_owns : (name : Text) → Owns (inspection_built name).rules (inspection_built name).rules
-inspection_owns name = ((refl, λ takes. refl), ((refl, λ takes. absurd cc), ((refl, λ takes. refl), ((refl, λ takes. absurd cc), tt))))
+inspection_owns name = ((refl, λ takes. refl), ((refl, λ takes. absurd cc), ((refl, λ takes. refl), ((refl, λ takes. refl), ((refl, λ takes. absurd cc), tt)))))
 
 run_has : (words : List Text) → level_fault run_built [] nothing_held words false [] ≡ [] → HasProtectedRun (rows_after run_built.rules [] words)
 run_has words e =
     let s = run_built in
     let clean = faultless s words run_owns e in
-    let program = program_there s words clean refl (inl refl) refl (inr (inr (inl refl))) refl in
-    let key = default_passed s words key_built clean (inr (inr (inr (inr (inr (inr (inl refl))))))) tt refl refl in
-    let nonce = default_passed s words nonce_built clean (inr (inr (inr (inr (inr (inr (inr (inl refl)))))))) tt refl refl in
-    let tags = default_passed s words tags_built clean (inr (inr (inr (inr (inr (inr (inr (inr (inl refl))))))))) tt refl refl in
-    let limit = default_passed s words page_limit_built clean (inr (inr (inr (inr (inr (inr (inr (inr (inr (inl refl)))))))))) tt refl refl in
+    let program = program_there s words clean refl (inl refl) refl (inr (inr (inl refl))) refl refl in
+    let key = default_passed s words key_built clean (inr (inr (inr (inr (inr (inr (inr (inl refl)))))))) tt refl refl in
+    let nonce = default_passed s words nonce_built clean (inr (inr (inr (inr (inr (inr (inr (inr (inl refl))))))))) tt refl refl in
+    let tags = default_passed s words tags_built clean (inr (inr (inr (inr (inr (inr (inr (inr (inr (inl refl)))))))))) tt refl refl in
+    let limit = default_passed s words page_limit_built clean (inr (inr (inr (inr (inr (inr (inr (inr (inr (inr (inl refl))))))))))) tt refl refl in
     record {
-      execution = execution_there s words clean program (inr (inr (inr (inr (inl refl))))) refl;
+      execution = execution_there s words clean program (inr (inr (inr (inr (inr (inl refl)))))) refl;
       key = value_there (codes "key") key.0 (rows_after s.rules [] words) key.1;
       nonce = value_there (codes "nonce") nonce.0 (rows_after s.rules [] words) nonce.1;
       tags = value_there (codes "tags") tags.0 (rows_after s.rules [] words) tags.1;
@@ -221,18 +233,18 @@ plain_has : (words : List Text) → level_fault plain_built [] nothing_held word
 plain_has words e =
     let s = plain_built in
     let clean = faultless s words plain_owns e in
-    let program = program_there s words clean refl (inl refl) refl (inr (inr (inl refl))) refl in
-    execution_there s words clean program (inr (inr (inr (inr (inl refl))))) refl
+    let program = program_there s words clean refl (inl refl) refl (inr (inr (inl refl))) refl refl in
+    execution_there s words clean program (inr (inr (inr (inr (inr (inl refl)))))) refl
 
 asm_has : (words : List Text) → level_fault asm_built [] nothing_held words false [] ≡ [] → HasProgram (rows_after asm_built.rules [] words)
 asm_has words e =
-    program_there asm_built words (faultless asm_built words asm_owns e) refl (inl refl) refl (inr (inl refl)) refl
+    program_there asm_built words (faultless asm_built words asm_owns e) refl (inl refl) refl (inr (inl refl)) refl refl
 
 inspection_has : (name : Text) (words : List Text) → level_fault (inspection_built name) [] nothing_held words false [] ≡ []
     → HasProgram (rows_after (inspection_built name).rules [] words)
 inspection_has name words e =
     let s = inspection_built name in
-    program_there s words (faultless s words (inspection_owns name) e) refl (inl refl) refl (inr (inr (inl refl))) refl
+    program_there s words (faultless s words (inspection_owns name) e) refl (inl refl) refl (inr (inr (inl refl))) refl refl
 
 verify_has : (words : List Text) → level_fault verify_built [] nothing_held words false [] ≡ [] → HasReport (rows_after verify_built.rules [] words)
 verify_has words e =

@@ -1,3 +1,4 @@
+pub mod Arguments
 pub mod LinesWritten
 pub mod Walks
 pub mod Flags

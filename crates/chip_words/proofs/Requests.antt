@@ -1,5 +1,5 @@
 -- What follows from a request.
-use Rattle.std.proofs.Common.{◌≡◌, ◌∙◌, ap, subst, ℕ, Bool, List, [], Option, Some, None, Result, Ok, Err, true, false, refl, sym, inl, inr, is_some, if◌then◌else◌}
+use Rattle.std.proofs.Common.{◌≡◌, ◌∙◌, ap, subst, Bool, List, [], Option, Some, None, Result, Ok, Err, true, false, refl, sym, inl, inr, is_some, if◌then◌else◌}
 use Rattle.std.specs.Prelude.{◌↔◌, codes, IsTrue}
 use Rattle.std.specs.Str.{bytes_eq}
 use Rattle.std.proofs.lemmas.Slice.Eq.{bytes_eq-Decides}
@@ -14,14 +14,13 @@ use Rattle.clap.specs.declared.parser.matches.ArgMatches.{ArgMatches}
 use Rattle.clap.proofs.OnLiterals.{clap_on_literals}
 use Rattle.clap.proofs.SimpleLemmas.{is_nil}
 use Rattle.chip_words.specs.App.{chip_app}
-use Rattle.chip_words.specs.Request.{Asked, WordsFault, asked_in, device_key_of, is_taken, request_of, run_on, terms_of, not_taken, verify_under}
+use Rattle.chip_words.specs.Request.{Asked, WordsFault, asked_in, asked_to_assemble, asked_to_disassemble, asked_to_measure, asked_to_run, asked_to_run_plain, asked_to_verify, by_values, is_taken, not_taken, request_of}
 use Rattle.chip_words.specs.Words.{Explains, IfUsage}
 use Rattle.chip_words.specs.declared.fault.ValueFault.{ValueFault}
 use Rattle.chip_words.specs.declared.fault.WordsError.{WordsError}
 use Rattle.chip_words.specs.declared.fault.WordsError.TheVariants.{Usage, WrongValue, NoMemory}
-use Rattle.chip_words.specs.declared.request.Terms.{Terms}
 use Rattle.chip_words.specs.Commands.{IfCommand}
-use Rattle.chip_words.proofs.Commands.{command_has, run_built, verify_built}
+use Rattle.chip_words.proofs.Commands.{asm_built, command_has, inspection_built, plain_built, run_built, verify_built}
 use Rattle.chip_words.proofs.Walks.{IsNoHelp, both_empty, walk_keeps}
 
 -- ---- a level without a fault
@@ -53,15 +52,10 @@ level_parts s names h words has below needs e =
 
 -- ---- the command that was met
 
--- a run is taken, whatever its terms come to
-run_taken : (values : List Row) (terms : Result Terms ValueFault) → is_taken (run_on values terms) ≡ true
-run_taken values (Ok terms) = refl
-run_taken values (Err fault) = refl
-
--- a check of a report is taken, whatever its key comes to
-verification_taken : (values : List Row) (key : Result (List ℕ) ValueFault) → is_taken (verify_under values key) ≡ true
-verification_taken values (Ok key) = refl
-verification_taken values (Err fault) = refl
+-- a command is taken, whatever its values come to
+by_values_is_taken : (answer : Result Asked ValueFault) → is_taken (by_values answer) ≡ true
+by_values_is_taken (Ok asked) = refl
+by_values_is_taken (Err fault) = refl
 
 -- one of the seven
 named : (stop : Option (Text × List Text)) → IsNoHelp stop → is_some (entered (built chip_app) stop) ≡ true
@@ -80,13 +74,15 @@ named (Some p) free some =
         → (m : Bool) → bytes_eq (codes "measure") p.0 ≡ m → (k : Bool) → bytes_eq (codes "verify") p.0 ≡ k
         → (n : Bool) → bytes_eq (codes "bench") p.0 ≡ n → (h : Bool) → bytes_eq (codes "help") p.0 ≡ h
         → is_taken (asked_in (entered (built chip_app) (Some p))) ≡ true
-    go true x b y c z d u m v k q n t h w = rw x (run_taken (rows_after run_built.rules [] p.1) (terms_of (rows_after run_built.rules [] p.1)))
-    go false x true y c z d u m v k q n t h w = rw (x, y) refl
-    go false x false y true z d u m v k q n t h w = rw (x, y, z) refl
-    go false x false y false z true u m v k q n t h w = rw (x, y, z, u) refl
-    go false x false y false z false u true v k q n t h w = rw (x, y, z, u, v) refl
+    go true x b y c z d u m v k q n t h w = rw x (by_values_is_taken (asked_to_run (rows_after run_built.rules [] p.1)))
+    go false x true y c z d u m v k q n t h w = rw (x, y) (by_values_is_taken (asked_to_run_plain (rows_after plain_built.rules [] p.1)))
+    go false x false y true z d u m v k q n t h w = rw (x, y, z) (by_values_is_taken (asked_to_assemble (rows_after asm_built.rules [] p.1)))
+    go false x false y false z true u m v k q n t h w =
+        rw (x, y, z, u) (by_values_is_taken (asked_to_disassemble (rows_after (inspection_built (codes "dis")).rules [] p.1)))
+    go false x false y false z false u true v k q n t h w =
+        rw (x, y, z, u, v) (by_values_is_taken (asked_to_measure (rows_after (inspection_built (codes "measure")).rules [] p.1)))
     go false x false y false z false u false v true q n t h w =
-        rw (x, y, z, u, v, q) (verification_taken (rows_after verify_built.rules [] p.1) (device_key_of (rows_after verify_built.rules [] p.1)))
+        rw (x, y, z, u, v, q) (by_values_is_taken (asked_to_verify (rows_after verify_built.rules [] p.1)))
     go false x false y false z false u false v false q true t h w = rw (x, y, z, u, v, q, t) refl
     go false x false y false z false u false v false q false t true w = absurd (let bad = rw (help_is w) at free in cc)
     go false x false y false z false u false v false q false t false w = absurd (let bad = rw (x, y, z, u, v, q, t, w) at some in cc)

@@ -17,13 +17,21 @@ flat_rule = record (new_rule (codes "flat")) { long = Some (codes "flat"); actio
 abbrev pub input_rule : Rule
 input_rule = record (new_rule (codes "input")) { long = Some (codes "input"); value_names = 1 }
 
--- `--levels L`, from 1 to 8, and 4 where it is left out
+-- `--layout 1|2`, and 1 where it is left out
+abbrev pub layout_rule : Rule
+layout_rule = record (new_rule (codes "layout")) {
+  long = Some (codes "layout");
+  value_names = 1;
+  parser = Some (Unsigned 1 2);
+  defaults = codes "1" ∷ [];
+}
+
+-- `--levels L`, from 1 to 8; where it is left out, the layout says how many levels there are
 abbrev pub levels_rule : Rule
 levels_rule = record (new_rule (codes "levels")) {
   long = Some (codes "levels");
   value_names = 1;
   parser = Some (Unsigned 1 8);
-  defaults = codes "4" ∷ [];
 }
 
 -- `--steps N`, any number of 64 bits, and 10000000 where it is left out
@@ -82,11 +90,11 @@ number_rule = record (new_rule (codes "number")) {
 
 -- what `asm` takes
 abbrev pub assembly_rules : List Rule
-assembly_rules = file_rule ∷ levels_rule ∷ []
+assembly_rules = file_rule ∷ layout_rule ∷ levels_rule ∷ []
 
 -- what `dis` and `measure` take
 abbrev pub inspection_rules : List Rule
-inspection_rules = file_rule ∷ flat_rule ∷ levels_rule ∷ []
+inspection_rules = file_rule ∷ flat_rule ∷ layout_rule ∷ levels_rule ∷ []
 
 -- what `plain` takes
 abbrev pub execution_rules : List Rule

@@ -1,9 +1,10 @@
 -- What the values of a command keep to that `clap` has no fault to find in.
-use Rattle.std.specs.Prelude.{◌≡◌, ◌<◌, ◌≤◌, ◌^◌, List, Option, Some, None, true, codes, IsSome, ⊤}
+use Rattle.std.specs.Prelude.{◌≡◌, ◌<◌, ◌≤◌, ◌^◌, ℕ, List, Option, Some, None, true, codes, IsSome, ⊤}
+use Rattle.std.specs.Option.{ForSome}
 use Rattle.std.specs.Str.{bytes_eq}
 use Rattle.std.specs.Str.Parse.{IsNumeral, without_leading_plus}
 use Rattle.clap.specs.Walk.{Row, Text, first_of}
-use Rattle.chip_words.specs.Request.{levels_of, number_of, numeral_value, value_of}
+use Rattle.chip_words.specs.Request.{number_of, numeral_value, value_of}
 
 -- the argument of this name has a value
 abbrev pub HasValue : Text → List Row → Type 0
@@ -14,11 +15,16 @@ abbrev pub HasNumber : Text → List Row → Type 0
 HasNumber id values = HasValue id values
     × (IsNumeral 10 (without_leading_plus (value_of id values)) × (numeral_value (value_of id values) < 2 ^ 64))
 
--- which program, and for how large a memory
+-- the text is a number of this range
+abbrev pub IsWithin : ℕ → ℕ → Text → Type 0
+IsWithin least most text = IsNumeral 10 (without_leading_plus text) × ((least ≤ numeral_value text) × (numeral_value text ≤ most))
+
+-- which program, and of which layout the tree of its memory is; of how many levels it is may be left out
 pub record HasProgram (values : List Row) : Type 0 where
   pub file : HasValue (codes "file") values
-  pub levels : HasNumber (codes "levels") values
-  pub bounds : (1 ≤ levels_of values) × (levels_of values ≤ 8)
+  pub layout : HasNumber (codes "layout") values
+  pub layouts : IsWithin 1 2 (value_of (codes "layout") values)
+  pub levels : ForSome (first_of (codes "levels") values) (IsWithin 1 8)
 
 -- which program to run, and for how many steps at most
 pub record HasExecution (values : List Row) : Type 0 where

@@ -26,7 +26,7 @@ default_terms = record {
   nonce = default_nonce;
 }
 
--- the file is an ELF file, for a tree of four levels; there is no input, and there are 10,000,000 steps
+-- the file is an ELF file, for a tree of layout One with four levels; there is no input, and there are 10,000,000 steps
 abbrev pub default_execution : Text → ExecutionAsked
 default_execution name = record {
   file = record { name = name; form = ElfFile; geometry = one 4 };

@@ -1,6 +1,7 @@
 -- What a list of words asks for: what `clap`'s definition of the command line gives for them, and then the checks of
 -- their values.
-use Rattle.std.specs.Prelude.{ℕ, Bool, List, [], Option, Some, None, ok_or, unwrap_or, Result, Ok, Err, true, false, codes, if◌then◌else◌}
+use Rattle.std.specs.Prelude.{◌==◌, ◌&&◌, nat_le, ℕ, Bool, List, [], Option, Some, None, ok_or, unwrap_or, Result, Ok, Err, true, false, codes, if◌then◌else◌}
+use Rattle.std.specs.Option.{option_map_or}
 use Rattle.std.specs.Result.{result_ok}
 use Rattle.std.specs.Str.{bytes_eq}
 use Rattle.std.specs.Str.Parse.{digits_value, without_leading_plus}
@@ -8,10 +9,12 @@ use Rattle.clap.specs.Walk.{Row, Text, first_of, is_empty, one_of}
 use Rattle.clap.specs.Simple.{subcommand_of}
 use Rattle.clap.specs.Faults.{fault_of}
 use Rattle.hex.specs.Hex.{decode_sized}
-use Rattle.sec_base.specs.Geometry.{GeometryView, one}
+use Rattle.sec_base.specs.Geometry.{GeometryView, most_levels}
+use Rattle.sec_base.specs.declared.geometry.Layout.{Layout}
+use Rattle.sec_base.specs.declared.geometry.Layout.TheVariants.{One, Two}
 use Rattle.chip_words.specs.App.{chip_app}
 use Rattle.chip_words.specs.declared.fault.ValueFault.{ValueFault}
-use Rattle.chip_words.specs.declared.fault.ValueFault.TheVariants.{Tags as wrong_tags, Key as wrong_key, Nonce as wrong_nonce}
+use Rattle.chip_words.specs.declared.fault.ValueFault.TheVariants.{Levels as wrong_levels, Tags as wrong_tags, Key as wrong_key, Nonce as wrong_nonce}
 use Rattle.chip_words.specs.declared.request.ProgramForm.{ProgramForm}
 use Rattle.chip_words.specs.declared.request.ProgramForm.TheVariants.{ElfFile, FlatFile, AssemblyText}
 use Rattle.chip_words.specs.declared.request.Tags.{Tags}
@@ -51,7 +54,7 @@ pub data Asked : Type 0 where
   to_verify : ReportAsked → Asked
   to_bench : ℕ → Asked
 
--- why words ask for nothing: `clap` doesn't take them; or it does, and a value of theirs doesn't have its form
+-- why words ask for nothing: `clap` doesn't take them; or it does, and a value of theirs is refused
 pub data WordsFault : Type 0 where
   not_taken : WordsFault
   wrong_value : ValueFault → WordsFault
@@ -93,35 +96,22 @@ form_of values = if is_flat values then FlatFile else ElfFile
 abbrev pub input_of : List Row → Option Text
 input_of values = first_of (codes "input") values
 
--- how many levels the tree has whose memory the program is for
-abbrev pub levels_of : List Row → ℕ
-levels_of values = numeral_value (value_of (codes "levels") values)
+-- the layout of the tree whose memory the program is for, by its number
+abbrev pub layout_of : List Row → Layout
+layout_of values = if numeral_value (value_of (codes "layout") values) == 2 then Two else One
 
--- the shape of that tree
-abbrev pub geometry_of : List Row → GeometryView
-geometry_of values = one (levels_of values)
+-- how many levels a tree of this layout has where none are named
+abbrev pub levels_by_default : Layout → ℕ
+levels_by_default One = 4
+levels_by_default Two = 3
+
+-- how many levels the tree has: as many as are named, else as its layout has by default
+abbrev pub levels_of : List Row → ℕ
+levels_of values = option_map_or numeral_value (first_of (codes "levels") values) (levels_by_default (layout_of values))
 
 -- the limit of steps of the run
 abbrev pub steps_of : List Row → ℕ
 steps_of values = numeral_value (value_of (codes "steps") values)
-
--- the file that is named, as one of this form
-abbrev pub file_of : ProgramForm → List Row → FileAsked
-file_of form values =
-    record { name = value_of (codes "file") values; form = form; geometry = geometry_of values }
-
--- the file of a program that is not assembled: flat with `--flat`, else ELF
-abbrev pub program_of : List Row → FileAsked
-program_of values = file_of (form_of values) values
-
--- the file of an assembly text
-abbrev pub text_of : List Row → FileAsked
-text_of values = file_of AssemblyText values
-
--- the program, its input and its limit of steps
-abbrev pub execution_of : List Row → ExecutionAsked
-execution_of values =
-    record { file = program_of values; input = input_of values; steps = steps_of values }
 
 -- the limit of page counters
 abbrev pub page_limit_of : List Row → ℕ
@@ -135,7 +125,16 @@ number_of values = numeral_value (value_of (codes "number") values)
 abbrev pub script_name_of : List Row → Option Text
 script_name_of values = first_of (codes "script") values
 
--- ---- the values that `clap` takes as any text, each tested after the ones before it
+-- ---- the values that `clap` takes and that may be refused all the same, each tested after the ones before it
+
+-- the shape of a tree of this layout with so many levels, where the layout has them
+abbrev pub geometry_with : Layout → ℕ → Option GeometryView
+geometry_with layout levels = if nat_le 1 levels && nat_le levels (most_levels layout)
+    then Some (record { layout = layout; levels = levels }) else None
+
+-- the shape of the tree whose memory the program is for, or the fault of levels that its layout doesn't have
+abbrev pub geometry_of : List Row → Result GeometryView ValueFault
+geometry_of values = ok_or (geometry_with (layout_of values) (levels_of values)) wrong_levels
 
 -- the kind of tags of this name
 abbrev pub tags_named : Text → Option Tags
@@ -158,9 +157,9 @@ device_key_of values = ok_or (bytes_in_hex 32 (value_of (codes "key") values)) w
 abbrev pub nonce_of : List Row → Result (List ℕ) ValueFault
 nonce_of values = ok_or (bytes_in_hex 16 (value_of (codes "nonce") values)) wrong_nonce
 
--- one value after another, as long as each has its form
+-- one value after another, as long as none is refused
 infixl 10 ◌>>=◌
--- `next` gets the value that has its form; a fault stays as it is
+-- `next` gets the value; a fault stays as it is
 abbrev pub ◌>>=◌ : {X Y : Type 0} → Result X ValueFault → (X → Result Y ValueFault) → Result Y ValueFault
 Ok x >>= next = next x
 Err fault >>= next = Err fault
@@ -175,32 +174,81 @@ terms_of values = do
 
 -- ---- the request
 
--- the run that these values and terms ask for
-abbrev pub run_of : List Row → Terms → RunAsked
-run_of values terms = record { execution = execution_of values; script = script_name_of values; terms = terms }
+-- the file that is named, as one of this form, for a memory of this shape
+abbrev pub file_of : ProgramForm → List Row → GeometryView → FileAsked
+file_of form values geometry =
+    record { name = value_of (codes "file") values; form = form; geometry = geometry }
 
--- a run on these terms, where their values have their form
-abbrev pub run_on : List Row → Result Terms ValueFault → Result Asked WordsFault
-run_on values (Ok terms) = Ok (to_run (run_of values terms))
-run_on values (Err fault) = Err (wrong_value fault)
+-- the file of a program that is not assembled: flat with `--flat`, else ELF
+abbrev pub program_of : List Row → GeometryView → FileAsked
+program_of values geometry = file_of (form_of values) values geometry
+
+-- the program, its input and its limit of steps
+abbrev pub execution_of : List Row → GeometryView → ExecutionAsked
+execution_of values geometry =
+    record { file = program_of values geometry; input = input_of values; steps = steps_of values }
+
+-- the run of the program on these terms, with the adversary's script
+abbrev pub run_of : List Row → GeometryView → Terms → RunAsked
+run_of values geometry terms =
+    record { execution = execution_of values geometry; script = script_name_of values; terms = terms }
 
 -- the report that these values name, and the device key to check it under
 abbrev pub report_of : List Row → List ℕ → ReportAsked
 report_of values key = record { name = value_of (codes "file") values; device_key = key }
 
--- a report that is checked under this key, where it has its form
-abbrev pub verify_under : List Row → Result (List ℕ) ValueFault → Result Asked WordsFault
-verify_under values (Ok key) = Ok (to_verify (report_of values key))
-verify_under values (Err fault) = Err (wrong_value fault)
+-- ---- what each command asks for, or the fault of the first of its values that is refused
+
+-- `run`
+abbrev pub asked_to_run : List Row → Result Asked ValueFault
+asked_to_run values = do
+  geometry ← geometry_of values
+  terms ← terms_of values
+  Ok (to_run (run_of values geometry terms))
+
+-- `plain`
+abbrev pub asked_to_run_plain : List Row → Result Asked ValueFault
+asked_to_run_plain values = do
+  geometry ← geometry_of values
+  Ok (to_run_plain (execution_of values geometry))
+
+-- `asm`
+abbrev pub asked_to_assemble : List Row → Result Asked ValueFault
+asked_to_assemble values = do
+  geometry ← geometry_of values
+  Ok (to_assemble (file_of AssemblyText values geometry))
+
+-- `dis`
+abbrev pub asked_to_disassemble : List Row → Result Asked ValueFault
+asked_to_disassemble values = do
+  geometry ← geometry_of values
+  Ok (to_disassemble (program_of values geometry))
+
+-- `measure`
+abbrev pub asked_to_measure : List Row → Result Asked ValueFault
+asked_to_measure values = do
+  geometry ← geometry_of values
+  Ok (to_measure (program_of values geometry))
+
+-- `verify`
+abbrev pub asked_to_verify : List Row → Result Asked ValueFault
+asked_to_verify values = do
+  key ← device_key_of values
+  Ok (to_verify (report_of values key))
+
+-- the fault of a value is one of the words
+abbrev pub by_values : Result Asked ValueFault → Result Asked WordsFault
+by_values (Ok asked) = Ok asked
+by_values (Err fault) = Err (wrong_value fault)
 
 -- what the command of this name asks for, with these values
 abbrev pub asked_by : Text → List Row → Result Asked WordsFault
-asked_by name values = if bytes_eq name (codes "run") then run_on values (terms_of values)
-    else (if bytes_eq name (codes "plain") then Ok (to_run_plain (execution_of values))
-    else (if bytes_eq name (codes "asm") then Ok (to_assemble (text_of values))
-    else (if bytes_eq name (codes "dis") then Ok (to_disassemble (program_of values))
-    else (if bytes_eq name (codes "measure") then Ok (to_measure (program_of values))
-    else (if bytes_eq name (codes "verify") then verify_under values (device_key_of values)
+asked_by name values = if bytes_eq name (codes "run") then by_values (asked_to_run values)
+    else (if bytes_eq name (codes "plain") then by_values (asked_to_run_plain values)
+    else (if bytes_eq name (codes "asm") then by_values (asked_to_assemble values)
+    else (if bytes_eq name (codes "dis") then by_values (asked_to_disassemble values)
+    else (if bytes_eq name (codes "measure") then by_values (asked_to_measure values)
+    else (if bytes_eq name (codes "verify") then by_values (asked_to_verify values)
     else (if bytes_eq name (codes "bench") then Ok (to_bench (number_of values)) else Err not_taken))))))
 
 -- what a command asks for, where there is one
@@ -209,7 +257,7 @@ asked_in None = Err not_taken
 asked_in (Some command) = asked_by command.0 command.1
 
 -- The words ask for something where `clap` has no fault to find in them: then their command says what, and its values,
--- which have to have their form, say of which file or generated program and how.
+-- of which none may be refused, say of which file or generated program and how.
 abbrev pub request_of : List Text → Result Asked WordsFault
 request_of words =
     if is_empty (fault_of chip_app words) then asked_in (subcommand_of chip_app words) else Err not_taken

@@ -13,7 +13,10 @@ use Rattle.sec_base.specs.declared.evidence.Evidence.TheVariants.{Forgery, Colli
 use Rattle.sec_base.specs.declared.message.Message.{Message}
 use Rattle.sec_base.specs.declared.message.Message.TheVariants.{Line as line_message, Node as node_message}
 use Rattle.sec_base.specs.declared.place.Place.TheVariants.{Line, Node}
+use Rattle.sec_base.specs.declared.geometry.Layout.{Layout}
+use Rattle.attest_report.specs.ToldLayout.{layout_number}
 use Rattle.attest_report.specs.declared.report.Report.{Report}
+use Rattle.attest_report.specs.declared.report.Signed.{Signed}
 use Rattle.chip_words.specs.Fault.{value_fault_name}
 use Rattle.chip_words.specs.declared.fault.ValueFault.{ValueFault}
 
@@ -105,7 +108,7 @@ summary_text number ending retired printed = concat (summary_lines number ending
 abbrev pub usage_text : List ℕ → List ℕ
 usage_text text = codes "usage\n" ++ text
 
--- the line of a value that doesn't have its form
+-- the line of a value that is refused
 abbrev pub value_fault_line : ValueFault → List ℕ
 value_fault_line fault = codes "usage " ++ value_fault_name fault ++ codes "\n"
 
@@ -156,6 +159,15 @@ field_lines report =
     ∷ told_ending_line report
     ∷ hex_line (codes "nonce") report.nonce ∷ []
 
+-- the line of the layout of a memory's tree
+abbrev pub layout_line : Layout → List ℕ
+layout_line layout = codes "layout " ++ decimal (layout_number layout) ++ codes "\n"
+
+-- the last line is of the layout, where the report names one
+abbrev pub layout_lines : Option Layout → List (List ℕ)
+layout_lines None = []
+layout_lines (Some layout) = layout_line layout ∷ []
+
 -- the whole text of what a report says
-abbrev pub report_text : Report → List ℕ
-report_text report = concat (field_lines report)
+abbrev pub report_text : Signed → List ℕ
+report_text signed = concat (field_lines signed.report ++ layout_lines signed.layout)

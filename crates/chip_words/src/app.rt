@@ -4,10 +4,10 @@ ghost use Rattle.clap.specs.Walk.{rule_of};
 ghost use Rattle.clap.specs.Simple.{app_of, shape_of};
 ghost use Rattle.clap.specs.declared.builder.command.Command.TheViews.{out-Command as fields_of};
 ghost use Rattle.chip_words.specs.App.{assembly_rules, bench_rules, chip_app, command, execution_rules, inspection_rules, protected_run_rules, verification_rules};
-ghost use Rattle.chip_words.specs.App.{file_rule, flat_rule, input_rule, key_rule, levels_rule, nonce_rule, number_rule, page_limit_rule, script_rule, steps_rule, tags_rule};
+ghost use Rattle.chip_words.specs.App.{file_rule, flat_rule, input_rule, key_rule, layout_rule, levels_rule, nonce_rule, number_rule, page_limit_rule, script_rule, steps_rule, tags_rule};
 
 use crate::defaults::{
-    DEVICE_KEY_TEXT, LEVELS_TEXT, NONCE_TEXT, PAGE_LIMIT_TEXT, STEPS_TEXT, TAGS_TEXT,
+    DEVICE_KEY_TEXT, LAYOUT_TEXT, NONCE_TEXT, PAGE_LIMIT_TEXT, STEPS_TEXT, TAGS_TEXT,
 };
 use clap::{Arg, ArgAction, Command, value_parser};
 use std::alloc::{AllocError, Global};
@@ -76,6 +76,7 @@ fn assembly<'a>(alloc: Global, name: &'a str, about: &'a str) -> Result<Command<
     let command = Command::new(alloc, name)
         .about(about)
         .arg(file(alloc, "The assembly text"))?
+        .arg(layout(alloc))?
         .arg(levels(alloc))?;
     Ok(command)
 }
@@ -89,6 +90,7 @@ fn inspection<'a>(alloc: Global, name: &'a str, about: &'a str) -> Result<Comman
         .about(about)
         .arg(file(alloc, "The program"))?
         .arg(flat(alloc))?
+        .arg(layout(alloc))?
         .arg(levels(alloc))?;
     Ok(command)
 }
@@ -155,6 +157,18 @@ fn input<'a>(alloc: Global) -> Arg<'a>
         .help("The program's input, empty by default")
 }
 
+fn layout<'a>(alloc: Global) -> Arg<'a>
+    ensures rule { rule_of result ≡ layout_rule }
+    ensures local { result.global ≡ false }
+{
+    Arg::new(alloc, "layout")
+        .long("layout")
+        .value_name("1|2")
+        .value_parser(value_parser!(u64).range(1..=2))
+        .default_value(LAYOUT_TEXT)
+        .help("The layout of the memory's tree: 1, of four children a node, or 2, of eight")
+}
+
 fn levels<'a>(alloc: Global) -> Arg<'a>
     ensures rule { rule_of result ≡ levels_rule }
     ensures local { result.global ≡ false }
@@ -163,8 +177,9 @@ fn levels<'a>(alloc: Global) -> Arg<'a>
         .long("levels")
         .value_name("L")
         .value_parser(value_parser!(u64).range(1..=8))
-        .default_value(LEVELS_TEXT)
-        .help("The levels of the memory's tree, 1 to 8")
+        .help(
+            "The levels of the memory's tree: 1 to 8, by default 4; of layout 2 1 to 5, by default 3",
+        )
 }
 
 fn steps<'a>(alloc: Global) -> Arg<'a>

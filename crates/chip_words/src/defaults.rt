@@ -2,14 +2,15 @@
 ghost use Rattle.std.specs.Prelude.{◌≡◌};
 ghost use Rattle.chip_words.specs.Defaults as spec;
 ghost use Rattle.chip_words.specs.Defaults.{IsReadByDefault};
+ghost use Rattle.chip_words.specs.Request.{levels_by_default};
 ghost use Rattle.chip_words.specs.Words.{run_asked};
 
 use crate::request::{Execution, ProgramFile, ProgramForm, ProtectedRun, Tags, Terms};
-use sec_base::Geometry;
+use sec_base::{Geometry, Layout};
 
-pub(crate) const LEVELS_TEXT: &str = "4";
+pub(crate) const LAYOUT_TEXT: &str = "1";
 
-const LEVELS: u8 = 4;
+const LAYOUT: Layout = Layout::One;
 
 pub(crate) const STEPS_TEXT: &str = "10000000";
 
@@ -43,7 +44,7 @@ pub fn default_run<'a>(name: &'a str) -> ProtectedRun<'a>
     let file = ProgramFile {
         name,
         form: ProgramForm::ElfFile,
-        geometry: Geometry::new(LEVELS).unwrap(),
+        geometry: Geometry::with(LAYOUT, default_levels(LAYOUT)).unwrap(),
     };
     let execution = Execution {
         file,
@@ -54,6 +55,16 @@ pub fn default_run<'a>(name: &'a str) -> ProtectedRun<'a>
         execution,
         script: None,
         terms: default_terms(),
+    }
+}
+
+/// How many levels a tree of this layout has where none are named.
+pub(crate) fn default_levels(layout: Layout) -> u8
+    ensures { result ≡ levels_by_default layout }
+{
+    match layout {
+        Layout::One => 4,
+        Layout::Two => 3,
     }
 }
 

@@ -7,9 +7,11 @@ use std::alloc::AllocError;
 use std::fmt;
 use thiserror::Error;
 
-/// A value that doesn't have its form. Shown as the name of its option.
+/// A value that is refused. Shown as the name of its option.
 #[derive(Clone, Copy, Debug, PartialEq, Eq)]
 pub enum ValueFault {
+    /// The memory's layout has no trees of so many levels.
+    Levels,
     /// No tags have this name.
     Tags,
     /// A device's key isn't 64 digits.
@@ -24,6 +26,7 @@ impl ValueFault {
         ensures { result.now ≡ value_fault_name self }
     {
         match self {
+            ValueFault::Levels => "levels",
             ValueFault::Tags => "tags",
             ValueFault::Key => "key",
             ValueFault::Nonce => "nonce",
@@ -48,7 +51,7 @@ pub enum WordsError {
     /// They are no request, or a question for help: clap's text for the user.
     #[error("{0}")]
     Usage(String),
-    /// A value doesn't have its form.
+    /// A value is refused.
     #[error("wrong value of --{0}")]
     WrongValue(ValueFault),
     /// There was no memory to read them.

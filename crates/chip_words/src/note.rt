@@ -23,7 +23,7 @@ pub struct RunNote<'a> {
     /// What passed a check though it was never tagged, if something did.
     pub evidence: Option<Evidence>,
     /// The signed report of the run, if there is one.
-    pub report: Option<[u8; 158]>,
+    pub report: Option<[u8; 159]>,
 }
 
 /// Tells of a run on the plain machine, a line at a time: how it ended, and how many instructions were retired.
@@ -96,7 +96,7 @@ fn tell_evidence<N: Sink>(
 // The report of the run, where it has one.
 fn tell_report<N: Sink>(
     alloc: Global,
-    report: &Option<[u8; 158]>,
+    report: &Option<[u8; 159]>,
     note: &mut N,
 ) -> Result<(), SinkStop>
     ensures told { IsWritten (concat (spec.report_lines report.now)) (N.state note.old) (N.state note.new) result }

@@ -18,7 +18,7 @@ pub fn tell_usage<N: Sink>(text: &str, note: &mut N) -> Result<(), SinkStop>
     write_line(note, text)
 }
 
-/// The line of a value that doesn't have its form.
+/// The line of a value that is refused.
 pub fn value_fault_line(alloc: Global, fault: ValueFault) -> Result<String, AllocError>
     ensures { IfOk result (λ text. string_bytes text ≡ spec.value_fault_line fault) }
 {

@@ -1,21 +1,46 @@
 // What a report says, as lines.
 ghost use Rattle.std.specs.Prelude.{◌≡◌, ◌≤◌, map, string_bytes, IfOk, OnOk};
+ghost use Rattle.std.specs.List.{concat};
 ghost use Rattle.sec_base.specs.Sink.{IsWritten};
 ghost use Rattle.chip_words.specs.Texts as spec;
 
 use crate::lines::{hex_line, retired_line, write_lines};
-use attest_report::Report;
-use sec_base::{Sink, SinkStop};
+use attest_report::{Report, Signed, layout_number};
+use sec_base::{Layout, Sink, SinkStop};
 use std::alloc::{AllocError, Global};
 
-/// Writes what a report says, a line at a time.
-pub fn write_fields<O: Sink>(alloc: Global, report: &Report, out: &mut O) -> Result<(), SinkStop>
-    ensures told { IsWritten (spec.report_text report.now) (O.state out.old) (O.state out.new) result }
+/// Writes what a report says, a line at a time. After an error no further line is written.
+pub fn write_fields<O: Sink>(alloc: Global, signed: &Signed, out: &mut O) -> Result<(), SinkStop>
+    ensures told { IsWritten (spec.report_text signed.now) (O.state out.old) (O.state out.new) result }
     ensures faults { (O.state out.old).faults ≤ (O.state out.new).faults }
     ensures quiet { OnOk result ((O.state out.new).faults ≡ (O.state out.old).faults) }
 {
-    let lines = field_lines(alloc, report)?;
-    write_lines(out, &lines)
+    let lines = field_lines(alloc, &signed.report)?;
+    write_lines(out, &lines)?;
+    write_layout(alloc, &signed.layout, out)
+}
+
+// The layout, where the report names one.
+fn write_layout<O: Sink>(
+    alloc: Global,
+    layout: &Option<Layout>,
+    out: &mut O,
+) -> Result<(), SinkStop>
+    ensures told { IsWritten (concat (spec.layout_lines layout.now)) (O.state out.old) (O.state out.new) result }
+    ensures faults { (O.state out.old).faults ≤ (O.state out.new).faults }
+    ensures quiet { OnOk result ((O.state out.new).faults ≡ (O.state out.old).faults) }
+{
+    match layout {
+        Some(layout) => write_lines(out, &[layout_line(alloc, *layout)?]),
+        None => Ok(()),
+    }
+}
+
+fn layout_line(alloc: Global, layout: Layout) -> Result<String, AllocError>
+    ensures { IfOk result (λ line. string_bytes line ≡ spec.layout_line layout) }
+{
+    let number = layout_number(layout);
+    format!(in alloc; "layout {number}\n")
 }
 
 fn field_lines(alloc: Global, report: &Report) -> Result<[String; 6], AllocError>

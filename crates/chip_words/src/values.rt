@@ -3,18 +3,19 @@ ghost use Rattle.std.specs.Prelude.{◌≡◌, IsTrue, codes, option_map};
 ghost use Rattle.clap.specs.Walk.{first_of, rows_of};
 ghost use Rattle.clap.specs.Words.{found_of, subcommand_rows_of};
 ghost use Rattle.chip_words.specs.Commands.{HasExecution, HasNumber, HasProgram, HasProtectedRun, HasReport, HasValue, HasWorkload, IfCommand};
-ghost use Rattle.chip_words.specs.Request.{asked_in, device_key_of, execution_of, file_of, form_of, geometry_of, is_flat as is_flat_in, is_taken, nonce_of, number_of, numeral_value, program_of, report_of, run_of, tags_of, terms_of, value_of};
+ghost use Rattle.chip_words.specs.Request.{asked_in, asked_to_assemble, asked_to_disassemble, asked_to_measure, asked_to_run, asked_to_run_plain, asked_to_verify, by_values, device_key_of, execution_of, file_of, form_of, geometry_of, is_flat as is_flat_in, is_taken, layout_of, levels_of, nonce_of, number_of, numeral_value, program_of, report_of, run_of, tags_of, terms_of, value_of};
 ghost use Rattle.chip_words.specs.Words.{answer_asked, execution_asked, file_asked, report_asked, run_asked};
 
+use crate::defaults::default_levels;
 use crate::fault::ValueFault;
 use crate::request::{
     Execution, ProgramFile, ProgramForm, ProtectedRun, ReportFile, Request, Tags, Terms,
 };
 use clap::ArgMatches;
 use hex::FromHex;
-use sec_base::Geometry;
+use sec_base::{Geometry, Layout};
 
-// What the command that was met asks for, where its values have their form.
+// What the command that was met asks for, where none of its values is refused.
 pub(crate) fn requested<'a>(matches: &ArgMatches<'a>) -> Result<Request<'a>, ValueFault>
     requires taken { IsTrue (is_taken (asked_in (subcommand_rows_of matches.now))) }
     requires values { IfCommand (subcommand_rows_of matches.now) }
@@ -22,23 +23,71 @@ pub(crate) fn requested<'a>(matches: &ArgMatches<'a>) -> Result<Request<'a>, Val
 {
     let (name, values) = matches.subcommand().unwrap();
     match name {
-        "run" => Ok(Request::Run(protected_run(values, terms(values)?))),
-        "plain" => Ok(Request::Plain(execution(values))),
-        "asm" => Ok(Request::Asm(file(values, ProgramForm::AssemblyText))),
-        "dis" => Ok(Request::Dis(program(values))),
-        "measure" => Ok(Request::Measure(program(values))),
-        "verify" => Ok(Request::Verify(report_file(values, device_key(values)?))),
+        "run" => run_request(values),
+        "plain" => plain_request(values),
+        "asm" => assembly_request(values),
+        "dis" => listing_request(values),
+        "measure" => measurement_request(values),
+        "verify" => report_request(values),
         "bench" => Ok(Request::Bench(workload_number(values))),
         _ => unreachable!(),
     }
 }
 
-fn protected_run<'a>(values: &ArgMatches<'a>, terms: Terms) -> ProtectedRun<'a>
+// `run`. The memory's shape is tested before the terms.
+fn run_request<'a>(values: &ArgMatches<'a>) -> Result<Request<'a>, ValueFault>
     requires { HasProtectedRun (rows_of (found_of values.now)) }
-    ensures { run_asked result ≡ run_of (rows_of (found_of values.now)) terms }
+    ensures { answer_asked result ≡ by_values (asked_to_run (rows_of (found_of values.now))) }
+{
+    Ok(Request::Run(protected_run(values, geometry(values)?, terms(values)?)))
+}
+
+// `plain`.
+fn plain_request<'a>(values: &ArgMatches<'a>) -> Result<Request<'a>, ValueFault>
+    requires { HasExecution (rows_of (found_of values.now)) }
+    ensures { answer_asked result ≡ by_values (asked_to_run_plain (rows_of (found_of values.now))) }
+{
+    Ok(Request::Plain(execution(values, geometry(values)?)))
+}
+
+// `asm`.
+fn assembly_request<'a>(values: &ArgMatches<'a>) -> Result<Request<'a>, ValueFault>
+    requires { HasProgram (rows_of (found_of values.now)) }
+    ensures { answer_asked result ≡ by_values (asked_to_assemble (rows_of (found_of values.now))) }
+{
+    Ok(Request::Asm(file(values, ProgramForm::AssemblyText, geometry(values)?)))
+}
+
+// `dis`.
+fn listing_request<'a>(values: &ArgMatches<'a>) -> Result<Request<'a>, ValueFault>
+    requires { HasProgram (rows_of (found_of values.now)) }
+    ensures { answer_asked result ≡ by_values (asked_to_disassemble (rows_of (found_of values.now))) }
+{
+    Ok(Request::Dis(program(values, geometry(values)?)))
+}
+
+// `measure`.
+fn measurement_request<'a>(values: &ArgMatches<'a>) -> Result<Request<'a>, ValueFault>
+    requires { HasProgram (rows_of (found_of values.now)) }
+    ensures { answer_asked result ≡ by_values (asked_to_measure (rows_of (found_of values.now))) }
+{
+    Ok(Request::Measure(program(values, geometry(values)?)))
+}
+
+// `verify`.
+fn report_request<'a>(values: &ArgMatches<'a>) -> Result<Request<'a>, ValueFault>
+    requires { HasReport (rows_of (found_of values.now)) }
+    ensures { answer_asked result ≡ by_values (asked_to_verify (rows_of (found_of values.now))) }
+{
+    Ok(Request::Verify(report_file(values, device_key(values)?)))
+}
+
+fn protected_run<'a>(values: &ArgMatches<'a>, geometry: Geometry, terms: Terms) -> ProtectedRun<'a>
+    requires { HasProtectedRun (rows_of (found_of values.now)) }
+    ensures { run_asked result ≡ run_of (rows_of (found_of values.now)) geometry terms }
 {
     ProtectedRun {
-        execution: execution(values),
+        execution: execution(values, geometry),
         script: text(values, "script"),
         terms,
     }
@@ -95,12 +144,12 @@ fn report_file<'a>(values: &ArgMatches<'a>, device_key: [u8; 32]) -> ReportFile<
     }
 }
 
-fn execution<'a>(values: &ArgMatches<'a>) -> Execution<'a>
+fn execution<'a>(values: &ArgMatches<'a>, geometry: Geometry) -> Execution<'a>
     requires { HasExecution (rows_of (found_of values.now)) }
-    ensures { execution_asked result ≡ execution_of (rows_of (found_of values.now)) }
+    ensures { execution_asked result ≡ execution_of (rows_of (found_of values.now)) geometry }
 {
     Execution {
-        file: program(values),
+        file: program(values, geometry),
         input: text(values, "input"),
         steps: number(values, "steps"),
     }
@@ -115,21 +164,21 @@ fn workload_number(values: &ArgMatches<'_>) -> u32
 }
 
 // A program that isn't assembled.
-fn program<'a>(values: &ArgMatches<'a>) -> ProgramFile<'a>
+fn program<'a>(values: &ArgMatches<'a>, geometry: Geometry) -> ProgramFile<'a>
     requires { HasProgram (rows_of (found_of values.now)) }
-    ensures { file_asked result ≡ program_of (rows_of (found_of values.now)) }
+    ensures { file_asked result ≡ program_of (rows_of (found_of values.now)) geometry }
 {
-    file(values, form(values))
+    file(values, form(values), geometry)
 }
 
-fn file<'a>(values: &ArgMatches<'a>, form: ProgramForm) -> ProgramFile<'a>
+fn file<'a>(values: &ArgMatches<'a>, form: ProgramForm, geometry: Geometry) -> ProgramFile<'a>
     requires { HasProgram (rows_of (found_of values.now)) }
-    ensures { file_asked result ≡ file_of form (rows_of (found_of values.now)) }
+    ensures { file_asked result ≡ file_of form (rows_of (found_of values.now)) geometry }
 {
     ProgramFile {
         name: value(values, "file"),
         form,
-        geometry: geometry(values),
+        geometry,
     }
 }
 
@@ -149,11 +198,34 @@ fn is_flat(values: &ArgMatches<'_>) -> bool
     values.get_one::<bool>("flat").unwrap_or(false)
 }
 
-fn geometry(values: &ArgMatches<'_>) -> Geometry
+// The shape of the memory's tree, where its layout has so many levels.
+fn geometry(values: &ArgMatches<'_>) -> Result<Geometry, ValueFault>
     requires { HasProgram (rows_of (found_of values.now)) }
     ensures { result ≡ geometry_of (rows_of (found_of values.now)) }
 {
-    Geometry::new(number(values, "levels") as u8).unwrap()
+    Geometry::with(layout(values), levels(values)).ok_or(ValueFault::Levels)
+}
+
+fn layout(values: &ArgMatches<'_>) -> Layout
+    requires { HasProgram (rows_of (found_of values.now)) }
+    ensures { result ≡ layout_of (rows_of (found_of values.now)) }
+{
+    match number(values, "layout") {
+        1 => Layout::One,
+        2 => Layout::Two,
+        _ => unreachable!(),
+    }
+}
+
+// As many as are named, else as the layout has by default.
+fn levels(values: &ArgMatches<'_>) -> u8
+    requires { HasProgram (rows_of (found_of values.now)) }
+    ensures { result ≡ levels_of (rows_of (found_of values.now)) }
+{
+    match text(values, "levels") {
+        Some(digits) => digits.parse::<u8>().unwrap(),
+        None => default_levels(layout(values)),
+    }
 }
 
 fn number(values: &ArgMatches<'_>, id: &str) -> u64

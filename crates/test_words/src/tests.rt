@@ -1,11 +1,14 @@
 // Lines of words. What each asks for is worked out by hand from the commands' arguments and from clap's rules: an option
 // stands anywhere behind its command, its value stands in the next word or behind `=`, after `--` no word is an option,
 // and no option stands twice.
+use self::Shape::{Refused, Tree, WrongLevels};
 use chip_words::ProgramForm::{AssemblyText, ElfFile, FlatFile};
 use chip_words::{
     Execution, ProgramFile, ProgramForm, Request, Tags, ValueFault, WordsError, default_run,
     read_words,
 };
+use sec_base::Layout::{One, Two};
+use sec_base::{Geometry, Layout};
 use std::alloc::{AllocError, Global};
 use std::test::Fail;
 
@@ -124,6 +127,131 @@ fn requests(rt: HostRuntime) -> Result<(), Fail> {
     Ok(())
 }
 
+// What the options of a line come to: a tree of this layout with so many levels, levels that the layout doesn't have, or
+// words that clap doesn't take.
+#[derive(Clone, Copy, Debug, PartialEq, Eq)]
+enum Shape {
+    Tree(Layout, u8),
+    WrongLevels,
+    Refused,
+}
+
+fn geometry(request: &Request<'_>) -> Option<Geometry> {
+    match request {
+        Request::Run(run) => Some(run.execution.file.geometry),
+        Request::Plain(execution) => Some(execution.file.geometry),
+        Request::Asm(file) | Request::Dis(file) | Request::Measure(file) => Some(file.geometry),
+        Request::Verify(_) | Request::Bench(_) => None,
+    }
+}
+
+fn tree_of(request: &Request<'_>) -> Option<Shape> {
+    let tree = geometry(request)?;
+    Some(Tree(tree.layout(), tree.levels()))
+}
+
+fn refusal_of(error: &WordsError) -> Option<Shape> {
+    match error {
+        WordsError::WrongValue(ValueFault::Levels) => Some(WrongLevels),
+        WordsError::Usage(_) => Some(Refused),
+        WordsError::WrongValue(_) | WordsError::NoMemory => None,
+    }
+}
+
+fn shape_of(alloc: Global, line: &str) -> Result<Option<Shape>, AllocError> {
+    let words: Vec<&str> = line.split_whitespace().collect(alloc)?;
+    match read_words(alloc, words.as_slice()) {
+        Ok(request) => Ok(tree_of(&request)),
+        Err(error) => Ok(refusal_of(&error)),
+    }
+}
+
+// Whether the options come to this shape behind each command that takes a program.
+fn comes_to(alloc: Global, options: &str, expected: Shape) -> Result<bool, AllocError> {
+    for command in ["run", "plain", "asm", "dis", "measure"] {
+        let line = format!(in alloc; "chip {command} p {options}")?;
+        if shape_of(alloc, line.as_str())? != Some(expected) {
+            return Ok(false);
+        }
+    }
+    Ok(true)
+}
+
+// Layout 1 has 1 to 8 levels, by default 4, and layout 2 has 1 to 5, by default 3. clap takes levels from 1 to 8.
+const SHAPES: [(&str, Shape); 33] = [
+    ("", Tree(One, 4)),
+    ("--levels 0", Refused),
+    ("--levels 1", Tree(One, 1)),
+    ("--levels 2", Tree(One, 2)),
+    ("--levels 3", Tree(One, 3)),
+    ("--levels 4", Tree(One, 4)),
+    ("--levels 5", Tree(One, 5)),
+    ("--levels 6", Tree(One, 6)),
+    ("--levels 7", Tree(One, 7)),
+    ("--levels 8", Tree(One, 8)),
+    ("--levels 9", Refused),
+    ("--layout 1", Tree(One, 4)),
+    ("--layout 1 --levels 0", Refused),
+    ("--layout 1 --levels 1", Tree(One, 1)),
+    ("--layout 1 --levels 2", Tree(One, 2)),
+    ("--layout 1 --levels 3", Tree(One, 3)),
+    ("--layout 1 --levels 4", Tree(One, 4)),
+    ("--layout 1 --levels 5", Tree(One, 5)),
+    ("--layout 1 --levels 6", Tree(One, 6)),
+    ("--layout 1 --levels 7", Tree(One, 7)),
+    ("--layout 1 --levels 8", Tree(One, 8)),
+    ("--layout 1 --levels 9", Refused),
+    ("--layout 2", Tree(Two, 3)),
+    ("--layout 2 --levels 0", Refused),
+    ("--layout 2 --levels 1", Tree(Two, 1)),
+    ("--layout 2 --levels 2", Tree(Two, 2)),
+    ("--layout 2 --levels 3", Tree(Two, 3)),
+    ("--layout 2 --levels 4", Tree(Two, 4)),
+    ("--layout 2 --levels 5", Tree(Two, 5)),
+    ("--layout 2 --levels 6", WrongLevels),
+    ("--layout 2 --levels 7", WrongLevels),
+    ("--layout 2 --levels 8", WrongLevels),
+    ("--layout 2 --levels 9", Refused),
+];
+
+#[test]
+fn layouts_and_levels(rt: HostRuntime) -> Result<(), Fail> {
+    for (options, expected) in SHAPES {
+        assert!(rt; comes_to(rt.alloc(), options, expected)?, "{options}");
+    }
+    Ok(())
+}
+
+// A layout is a number as others are, from 1 to 2.
+const SPELLINGS: [(&str, Shape); 18] = [
+    ("--layout=2", Tree(Two, 3)),
+    ("--layout +2", Tree(Two, 3)),
+    ("--layout 02", Tree(Two, 3)),
+    ("--layout +01", Tree(One, 4)),
+    ("--levels +05 --layout 002", Tree(Two, 5)),
+    ("--levels=06 --layout=2", WrongLevels),
+    ("--levels 6 --layout +1", Tree(One, 6)),
+    ("--layout 0", Refused),
+    ("--layout 3", Refused),
+    ("--layout -1", Refused),
+    ("--layout=-2", Refused),
+    ("--layout", Refused),
+    ("--layout=", Refused),
+    ("--layout two", Refused),
+    ("--layout 18446744073709551617", Refused),
+    ("--layout 2 --layout 2", Refused),
+    ("--layout 1 --levels 4 --layout 2", Refused),
+    ("--layout 2 --levels 6 --levels 6", Refused),
+];
+
+#[test]
+fn layouts_are_numbers(rt: HostRuntime) -> Result<(), Fail> {
+    for (options, expected) in SPELLINGS {
+        assert!(rt; comes_to(rt.alloc(), options, expected)?, "{options}");
+    }
+    Ok(())
+}
+
 fn page_limit(alloc: Global, line: &str) -> Result<Option<u64>, AllocError> {
     let words: Vec<&str> = line.split_whitespace().collect(alloc)?;
     let Ok(Request::Run(run)) = read_words(alloc, words.as_slice()) else {
@@ -217,7 +345,30 @@ fn wrong_values(rt: HostRuntime) -> Result<(), Fail> {
         ("chip run p --nonce 00 --levels 2", Some(ValueFault::Nonce)),
         ("chip run p --nonce=", Some(ValueFault::Nonce)),
         ("chip verify r --key 00", Some(ValueFault::Key)),
-        // The first of tags, key and nonce is told, wherever it stands.
+        ("chip run p --layout 2 --levels 6", Some(ValueFault::Levels)),
+        (
+            "chip measure p --layout 2 --levels 8",
+            Some(ValueFault::Levels),
+        ),
+        // The first of levels, tags, key and nonce is told, wherever it stands.
+        (
+            "chip run p --nonce 0 --tags md5 --key 00 --levels 8 --layout 2",
+            Some(ValueFault::Levels),
+        ),
+        (
+            "chip run p --layout 2 --levels 8 --tags md5 --key 00",
+            Some(ValueFault::Levels),
+        ),
+        (
+            "chip run p --layout 2 --levels 5 --tags md5 --key 00",
+            Some(ValueFault::Tags),
+        ),
+        (
+            "chip run p --layout 2 --levels 6 --nonce 0",
+            Some(ValueFault::Levels),
+        ),
+        ("chip run p --layout 2 --levels 9 --tags md5", None),
+        ("chip run p --layout 2 --levels 6 --steps x", None),
         (
             "chip run p --nonce 0 --key 0 --tags x",
             Some(ValueFault::Tags),
@@ -229,6 +380,7 @@ fn wrong_values(rt: HostRuntime) -> Result<(), Fail> {
     for (line, fault) in rows {
         assert_eq!(rt; wrong_value(rt.alloc(), line)?, fault, "{line}");
     }
+    assert_eq!(rt; ValueFault::Levels.name(), "levels");
     assert_eq!(rt; ValueFault::Tags.name(), "tags");
     assert_eq!(rt; ValueFault::Key.name(), "key");
     assert_eq!(rt; ValueFault::Nonce.name(), "nonce");
@@ -391,6 +543,7 @@ fn refusals(rt: HostRuntime) -> Result<(), Fail> {
         "chip run a b",
         "chip run p --levels 0",
         "chip run p --levels 9",
+        "chip run p --layout 2 --levels 9",
         "chip run p --levels=-0",
         "chip run p --levels x",
         "chip run p --levels",
@@ -441,6 +594,8 @@ fn refusals(rt: HostRuntime) -> Result<(), Fail> {
         "chip verify",
         "chip verify r s",
         "chip verify r --levels 1",
+        "chip verify r --layout 1",
+        "chip verify r --layout 2",
         "chip verify r --flat",
         "chip verify r --nonce 00",
         "chip verify r --key",
@@ -454,6 +609,8 @@ fn refusals(rt: HostRuntime) -> Result<(), Fail> {
         "chip bench 0x10",
         "chip bench 1 2",
         "chip bench 1 --levels 4",
+        "chip bench 0 --layout 1",
+        "chip bench 0 --layout 2",
         "chip bench 1 --flat",
         "chip assemble p",
         "chip --flat run p",
@@ -477,5 +634,30 @@ fn text_of_a_refusal(rt: HostRuntime) -> Result<(), Fail> {
     let text = usage(rt.alloc(), "chip run p --levels 9")?.ok_or("no text")?;
     let first = "error: invalid value '9' for '--levels <L>': 9 is not in 1..=8\n";
     assert!(rt; text.as_str().starts_with(first), "{text}");
+    let text = usage(rt.alloc(), "chip dis p --layout 3")?.ok_or("no text")?;
+    let first = "error: invalid value '3' for '--layout <1|2>': 3 is not in 1..=2\n";
+    assert!(rt; text.as_str().starts_with(first), "{text}");
+    Ok(())
+}
+
+// An option with a default is told with it.
+const ASM_HELP: &str = "\
+Makes the ELF file of an assembly text
+
+Usage: chip asm [OPTIONS] <FILE>
+
+Arguments:
+  <FILE>  The assembly text
+
+Options:
+      --layout <1|2>  The layout of the memory's tree: 1, of four children a node, or 2, of eight [default: 1]
+      --levels <L>    The levels of the memory's tree: 1 to 8, by default 4; of layout 2 1 to 5, by default 3
+  -h, --help          Print help
+";
+
+#[test]
+fn help_of_a_command(rt: HostRuntime) -> Result<(), Fail> {
+    let text = usage(rt.alloc(), "chip asm --help")?.ok_or("no text")?;
+    assert_eq!(rt; text.as_str(), ASM_HELP);
     Ok(())
 }

@@ -1,14 +1,7 @@
-use Rattle.std.proofs.Common.{◌≡◌, ◌∙◌, ◌++◌, List, [], ◌∷◌, ap, ap₂}
-use Rattle.clap.specs.Walk.{Rule, Text}
-use Rattle.clap.specs.Simple.{App, Shape, with_rule}
-use Rattle.chip_words.specs.App.{command, execution_rules, key_rule, nonce_rule, page_limit_rule, script_rule, tags_rule}
+use Rattle.std.proofs.Common.{◌++◌, [], ◌∷◌}
+use Rattle.chip_words.specs.App.{execution_rules, key_rule, nonce_rule, page_limit_rule, script_rule, tags_rule}
+use Rattle.chip_words.proofs.Arguments.{adds}
 use Rattle.chip_words.proofs.app.protected_run.Goals as goal
-
--- one more argument
-adds : (old new : App) (added rule : Rule) (name : Text) (rules : List Rule) → new ≡ with_rule old added → added ≡ rule
-    → old.top ≡ command name rules → new.top ≡ command name (rules ++ rule ∷ [])
-adds old new added rule name rules is same before =
-    ap (λ (a : App). a.top) is ∙ ap₂ (λ (s : Shape) (r : Rule). record s { rules = s.rules ++ r ∷ [] }) before same
 
 pub returns-clause-shape : goal.returns-clause-shape
 returns-clause-shape c =
