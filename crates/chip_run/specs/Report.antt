@@ -3,16 +3,18 @@ use Rattle.std.specs.Prelude.{ℕ, List, Option}
 use Rattle.std.specs.Option.{option_map}
 use Rattle.sha2.specs.Sha256.{sha256}
 use Rattle.sec_base.specs.declared.ending.Ending.{Ending}
-use Rattle.attest_report.specs.Report.{report_bytes}
+use Rattle.sec_base.specs.declared.geometry.Layout.{Layout}
+use Rattle.attest_report.specs.Report.{report2_bytes}
 use Rattle.attest_report.specs.ToldEnding.{ending_and_code}
 use Rattle.attest_report.specs.declared.report.Report.{Report}
 
--- What a report is of, beside how the run went: the program's measurement, the whole input, the nonce, and the key that
--- it is signed under.
+-- What a report is of, beside how the run went: the program's measurement, the whole input, the nonce, the layout of the
+-- memory's tree, and the key that it is signed under.
 pub record ReportTerms : Type 0 where
   pub measurement : List ℕ
   pub input : List ℕ
   pub nonce : List ℕ
+  pub layout : Layout
   pub report_key : List ℕ
 
 -- what it says of a run whose output has this digest, that retired so many instructions, with this ending and code
@@ -27,7 +29,8 @@ report_of terms output_digest retired told = record {
   nonce = terms.nonce;
 }
 
--- its bytes under the report key, where the ending makes a report
+-- its bytes, of version 2, under the report key, where the ending makes a report
 abbrev pub signed_report : ReportTerms → List ℕ → ℕ → Ending → Option (List ℕ)
 signed_report terms output_digest retired ending =
-    option_map (λ told. report_bytes (report_of terms output_digest retired told) terms.report_key) (ending_and_code ending)
+    option_map (λ told. report2_bytes (report_of terms output_digest retired told) terms.layout terms.report_key)
+    (ending_and_code ending)

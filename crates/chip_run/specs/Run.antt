@@ -58,6 +58,7 @@ run_terms image input setup tag_of = record {
     measurement = measurement_of image;
     input = input;
     nonce = setup.nonce;
+    layout = setup.geometry.layout;
     report_key = setup.keys.report_key;
   };
 }

@@ -15,7 +15,7 @@ pub(crate) fn close<B: Bus, T: Tagger>(
     memory: SecureRam<B, T>,
     retired: u64,
     ending: Ending,
-    report: Option<[u8; 158]>,
+    report: Option<[u8; 159]>,
 ) -> (RunRecord, B)
     ensures retired { result.0.retired ≡ retired }
     ensures ending { result.0.ending ≡ ending }

@@ -31,5 +31,5 @@ pub struct RunRecord {
     /// What lines were encrypted under, in order.
     pub used: Pads,
     /// The signed report of the run, if there is one.
-    pub report: Option<[u8; 158]>,
+    pub report: Option<[u8; 159]>,
 }

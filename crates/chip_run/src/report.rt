@@ -4,7 +4,7 @@ ghost use Rattle.elf_load.specs.Measurement.{measurement_of};
 ghost use Rattle.chip_run.specs.Report as told;
 
 use crate::record::Setup;
-use attest_report::{Report, ending_and_code, report_bytes};
+use attest_report::{Report, ending_and_code, report2_bytes};
 use elf_load::measure;
 use sec_base::{Ending, Image};
 use sha2::{Digest, Sha256};
@@ -18,11 +18,12 @@ pub(crate) fn signed_report(
     output_digest: [u8; 32],
     retired: u64,
     ending: Ending,
-) -> Option<[u8; 158]>
+) -> Option<[u8; 159]>
     ensures { result ≡ told.signed_report (record {
       measurement = measurement_of image.now;
       input = input.now;
       nonce = setup.now.nonce;
+      layout = setup.now.geometry.layout;
       report_key = setup.now.keys.report_key;
     }) output_digest retired ending }
 {
@@ -36,5 +37,6 @@ pub(crate) fn signed_report(
         code,
         nonce: setup.nonce,
     };
-    Some(report_bytes(&report, &setup.keys.report_key))
+    let layout = setup.geometry.layout();
+    Some(report2_bytes(&report, layout, &setup.keys.report_key))
 }

@@ -97,6 +97,7 @@ impl<'a, P: Processor, B: Bus, T: Tagger> Running<'a, P, B, T> {
               measurement = measurement_of image.now;
               input = input.now;
               nonce = setup.now.nonce;
+              layout = setup.now.geometry.layout;
               report_key = setup.now.keys.report_key;
             }) (sha256 printed) result.0.retired result.0.ending }
     {
