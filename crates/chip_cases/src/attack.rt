@@ -32,10 +32,29 @@ pub fn attack_files(alloc: Global, text: &[u8], script: &[u8]) -> Result<MemoryF
     Ok(files)
 }
 
-/// The run of an attack.
+/// The run of an attack under layout 1.
 pub fn call_attack(alloc: Global, attack: Attack<'_>) -> Result<Call, NoMemory> {
+    call_attack_under(alloc, "1", attack)
+}
+
+/// The run of an attack under a layout.
+pub fn call_attack_under(
+    alloc: Global,
+    layout: &str,
+    attack: Attack<'_>,
+) -> Result<Call, NoMemory> {
     let mut files = attack_files(alloc, attack.text, attack.script)?;
-    let words = ["chip", "run", "p", "--script", "s", "--tags", attack.tags];
+    let words = [
+        "chip",
+        "run",
+        "p",
+        "--script",
+        "s",
+        "--tags",
+        attack.tags,
+        "--layout",
+        layout,
+    ];
     make_call(alloc, &words, &mut files, &[], &[])
 }
 

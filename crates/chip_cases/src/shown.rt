@@ -35,12 +35,12 @@ impl Call {
     }
 }
 
-/// A text without the line of a report at its end, which begins with `report ` and has 316 digits.
+/// A text without the line of a report at its end, which begins with `report ` and has 318 digits.
 pub fn without_report(text: &[u8]) -> &[u8] {
-    if text.len() < 324 {
+    if text.len() < 326 {
         return text;
     }
-    let (before, line) = text.split_at(text.len() - 324);
+    let (before, line) = text.split_at(text.len() - 326);
     if line.starts_with(b"report ") {
         before
     } else {

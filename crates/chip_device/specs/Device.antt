@@ -39,6 +39,7 @@ report_terms_of asked program input = record {
   measurement = measurement_by program.entry (memory_size asked.execution.file.geometry) program.segments;
   input = input;
   nonce = asked.terms.nonce;
+  layout = asked.execution.file.geometry.layout;
   report_key = (keys_of asked.terms.device_key).report_key;
 }
 

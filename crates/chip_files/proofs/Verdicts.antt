@@ -6,11 +6,11 @@ use Rattle.sec_base.specs.Files.{FilesState, HasBytes}
 use Rattle.hmac_tag.specs.DeviceKeys.{keys_of}
 use Rattle.hmac_tag.specs.declared.derivation.Keys.{Keys}
 use Rattle.attest_report.specs.Refusal.{first_refusal}
-use Rattle.attest_report.specs.Report.{IsReport, report_bytes}
+use Rattle.attest_report.specs.Report.{IsReport, bytes_by_version}
 use Rattle.attest_report.specs.Text.{IsTextOf}
 use Rattle.attest_report.specs.declared.refusal.ReportError.{ReportError}
 use Rattle.attest_report.specs.declared.refusal.ReportError.TheVariants.{Length, Digit, Version, Tag}
-use Rattle.attest_report.specs.declared.report.Report.{Report}
+use Rattle.attest_report.specs.declared.report.Signed.{Signed}
 use Rattle.attest_report.proofs.Verdicts.{no_refusal}
 use Rattle.chip_words.specs.Request.{ReportAsked}
 use Rattle.chip_files.specs.declared.refusal.Refusal.{Refusal}
@@ -35,15 +35,15 @@ pub verdict_is : (device_key text key : List ℕ) (verdict : Option ReportError)
 verdict_is device_key text key verdict same is = sym (is ∙ ap (first_refusal text) same)
 
 -- and so is the report
-pub made_by : (device_key text key : List ℕ) (report : Report) → key ≡ device_report_key device_key → IsReport report → IsTextOf (report_bytes report key) text →
-    IsMadeBy device_key text report
-made_by device_key text key report same is told =
-    record { is_report = is; text_of = subst (λ (k : List ℕ). IsTextOf (report_bytes report k) text) same told }
+pub made_by : (device_key text key : List ℕ) (signed : Signed) → key ≡ device_report_key device_key → IsReport signed.report →
+    IsTextOf (bytes_by_version signed.report signed.layout key) text → IsMadeBy device_key text signed
+made_by device_key text key signed same is told =
+    record { is_report = is; text_of = subst (λ (k : List ℕ). IsTextOf (bytes_by_version signed.report signed.layout k) text) same told }
 
 -- a report that the device made is not refused
-pub made_verdict : {device_key text : List ℕ} {report : Report} → IsMadeBy device_key text report → verdict_of device_key text ≡ None
-made_verdict {device_key} {text} {report} made =
-    sym (no_refusal text (device_report_key device_key) report made.is_report made.text_of)
+pub made_verdict : {device_key text : List ℕ} {signed : Signed} → IsMadeBy device_key text signed → verdict_of device_key text ≡ None
+made_verdict {device_key} {text} {signed} made =
+    sym (no_refusal text (device_report_key device_key) signed.report signed.layout made.is_report made.text_of)
 
 -- any refusal but that of the tag is one of the form
 pub form_refused : (error : ReportError) → error ≢ Tag → form_fault (Some error) ≡ Some (report_refused error)
@@ -76,14 +76,14 @@ no_report stop asked text old new told within asks why =
     let cause = is_cause why.0 (report_need asked) old new of_bytes (record { bytes = text; told = told; within = within; fault = why.2 }) in
     subst (λ (s : Stop). IsStoppedBy s (report_need asked ∷ []) old new) (sym why.1) (stops_here why.0 (report_need asked) old new asks cause)
 
-pub taken_report : (asked : ReportAsked) (text : List ℕ) (old new : FilesState) (result : Result (Option Report) Stop) → HasBytes old.held asked.name text → length text ≤ report_limit →
+pub taken_report : (asked : ReportAsked) (text : List ℕ) (old new : FilesState) (result : Result (Option Signed) Stop) → HasBytes old.held asked.name text → length text ≤ report_limit →
     Asks (report_need asked ∷ []) old new → IfOk result (IsVerdict asked.device_key text) → OnOk result (form_fault (verdict_of asked.device_key text) ≡ None) →
-    IfOk result (λ report. (read : List ℕ) × ReadsReport asked old new read × IsVerdict asked.device_key read report)
-taken_report asked text old new (Ok report) told within asks verdict formed = (text, reads_report asked text old new told within asks formed, verdict)
+    IfOk result (λ signed. (read : List ℕ) × ReadsReport asked old new read × IsVerdict asked.device_key read signed)
+taken_report asked text old new (Ok signed) told within asks verdict formed = (text, reads_report asked text old new told within asks formed, verdict)
 taken_report asked text old new (Err stop) told within asks verdict formed = tt
 
-pub refused_report : (asked : ReportAsked) (text : List ℕ) (old new : FilesState) (result : Result (Option Report) Stop) → HasBytes old.held asked.name text → length text ≤ report_limit →
+pub refused_report : (asked : ReportAsked) (text : List ℕ) (old new : FilesState) (result : Result (Option Signed) Stop) → HasBytes old.held asked.name text → length text ≤ report_limit →
     Asks (report_need asked ∷ []) old new → IfErr result (λ stop. (refusal : Refusal) × (stop ≡ Refused refusal) × (form_fault (verdict_of asked.device_key text) ≡ Some refusal)) →
     IfErr result (λ stop. IsStoppedBy stop (report_need asked ∷ []) old new)
-refused_report asked text old new (Ok report) told within asks why = tt
+refused_report asked text old new (Ok signed) told within asks why = tt
 refused_report asked text old new (Err stop) told within asks why = no_report stop asked text old new told within asks why

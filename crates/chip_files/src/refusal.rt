@@ -10,7 +10,7 @@ use rv32_asm::AsmFault;
 pub enum Refusal {
     /// `clap` doesn't take the words, as this text says.
     Usage(String),
-    /// A value of the words doesn't have its form.
+    /// A value of the words is refused.
     WrongValue(ValueFault),
     /// A file could not be read.
     Unread,

@@ -18,7 +18,7 @@ use crate::program::{most_bytes, program_in};
 use crate::refusal::Refusal;
 use crate::stop::Stop;
 use adversary_script::{Script, parse};
-use attest_report::{Report, ReportError, verify};
+use attest_report::{ReportError, Signed, verify};
 use chip_words::{Execution, ProgramFile, ProtectedRun, ReportFile};
 use hmac_tag::derive;
 use sec_base::{Bytes, Files, Geometry, Image};
@@ -102,10 +102,10 @@ pub fn take_report<F: Files>(
     alloc: Global,
     asked: &ReportFile<'_>,
     files: &mut F,
-) -> Result<Option<Report>, Stop>
-    ensures taken { IfOk result (λ report. (text : List ℕ)
+) -> Result<Option<Signed>, Stop>
+    ensures taken { IfOk result (λ signed. (text : List ℕ)
         × ReadsReport (report_asked asked.now) (F.state files.old) (F.state files.new) text
-        × IsVerdict asked.now.device_key text report) }
+        × IsVerdict asked.now.device_key text signed) }
     ensures stopped { IfErr result (λ stop.
         IsStoppedBy stop (report_need (report_asked asked.now) ∷ []) (F.state files.old) (F.state files.new)) }
     ensures held { (F.state files.new).held ≡ (F.state files.old).held }
@@ -117,7 +117,7 @@ pub fn take_report<F: Files>(
 }
 
 // The report that a text is, or None where its tag is another than the device of the key gives.
-fn report_in(text: &[u8], device_key: &[u8; 32]) -> Result<Option<Report>, Stop>
+fn report_in(text: &[u8], device_key: &[u8; 32]) -> Result<Option<Signed>, Stop>
     ensures verdict { IfOk result (IsVerdict device_key.now text.now) }
     ensures formed { OnOk result (form_fault (verdict_of device_key.now text.now) ≡ None) }
     ensures refused { IfErr result (λ stop. (refusal : Refusal) × (stop ≡ Refused refusal)
@@ -125,7 +125,7 @@ fn report_in(text: &[u8], device_key: &[u8; 32]) -> Result<Option<Report>, Stop>
 {
     let key = derive(device_key).report_key;
     match verify(text, &key) {
-        Ok(report) => Ok(Some(report)),
+        Ok(signed) => Ok(Some(signed)),
         Err(fault) => match fault {
             ReportError::Tag => Ok(None),
             _ => Err(Stop::Refused(Refusal::Report(fault))),

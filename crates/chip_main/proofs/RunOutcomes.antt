@@ -297,7 +297,7 @@ text_written (Ok (to_run_plain execution)) files files' out out' telling came = 
 text_written (Ok (to_assemble file)) files files' out out' telling came = (elf_file came.image, came.written)
 text_written (Ok (to_disassemble file)) files files' out out' telling came = (listing came.image, came.written)
 text_written (Ok (to_measure file)) files files' out out' telling came = (measurement_line came.image, came.written)
-text_written (Ok (to_verify report)) files files' out out' telling came = (report_text came.report, came.written)
+text_written (Ok (to_verify report)) files files' out out' telling came = (report_text came.signed, came.written)
 text_written (Ok (to_bench number)) files files' out out' telling came = absurd came
 
 text_failed : (text : List ℕ) (old new : SinkState) (telling : Telling) → IsWritten text old new telling → code_of (text_status telling) ≡ 9 → Rose old.faults new.faults

@@ -6,7 +6,7 @@ use Rattle.sec_base.specs.Geometry.{memory_size}
 use Rattle.sec_base.specs.Program.{IsImageOf, Program}
 use Rattle.sec_base.specs.Sink.{SinkState, IsWritten}
 use Rattle.sec_base.specs.declared.image.Image.{Image}
-use Rattle.attest_report.specs.declared.report.Report.{Report}
+use Rattle.attest_report.specs.declared.report.Signed.{Signed}
 use Rattle.bus_model.specs.BusHistory.{new_history}
 use Rattle.plain_machine.specs.declared.PlainRecord.{PlainRecord}
 use Rattle.chip_run.specs.Run.{RunsProtected}
@@ -69,9 +69,9 @@ pub record WritesReport (asked : ReportAsked) (files files' : FilesState) (out o
     : Type 0 where
   pub text : List ℕ
   pub reads : ReadsReport asked files files' text
-  pub report : Report
-  pub made : IsMadeBy asked.device_key text report
-  pub written : IsWritten (report_text report) out out' telling
+  pub signed : Signed
+  pub made : IsMadeBy asked.device_key text signed
+  pub written : IsWritten (report_text signed) out out' telling
 
 -- the file is a report that the device of the request's key did not make
 abbrev pub FindsOtherTag : ReportAsked → FilesState → FilesState → Type 0

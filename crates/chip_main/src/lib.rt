@@ -53,10 +53,10 @@ pub struct Done {
 /// - `bench NUMBER` runs a generated program on protected memory, on the terms that `run` has by default, and sums up
 ///   what it printed.
 ///
-/// But for `asm`, a program is an ELF file, or with `--flat` has the program's bytes and nothing else. `--levels L`
-/// says how large the memory is. Of `run` and `plain`, `--input FILE` names the program's input and `--steps N` how many
-/// instructions may be retired. Of `run` and `verify`, `--key HEX` is the key of the device. What is printed or made
-/// goes to `out`, the rest to `note`.
+/// But for `asm`, a program is an ELF file, or with `--flat` has the program's bytes and nothing else. `--layout N`, 1 or
+/// 2, and `--levels L`, 1 to 8 or to 5, say how large the memory is. Of `run` and `plain`, `--input FILE` names the
+/// program's input and `--steps N` how many instructions may be retired. Of `run` and `verify`, `--key HEX` is the key of
+/// the device. What is printed or made goes to `out`, the rest to `note`.
 pub fn run_words<F: Files, O: Sink, N: Sink>(
     alloc: Global,
     words: &[&str],

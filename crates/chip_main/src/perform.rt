@@ -74,7 +74,7 @@ fn course_of<F: Files, O: Sink>(
             Ok(Course::Written(write_measurement(alloc, &image, out)))
         }
         Request::Verify(asked) => match take_report(alloc, &asked, files)? {
-            Some(report) => Ok(Course::Written(write_fields(alloc, &report, out))),
+            Some(signed) => Ok(Course::Written(write_fields(alloc, &signed, out))),
             None => Ok(Course::OtherTag),
         },
         Request::Bench(number) => {
