@@ -68,12 +68,14 @@ fn files_are_read_up_to_a_limit(rt: HostRuntime) {
     }
 }
 
-// A run of an empty file, with each of its nine options.
-const RUN: [&[u8]; 20] = [
+// A run of an empty file, with each of its options.
+const RUN: [&[u8]; 22] = [
     b"chip",
     b"run",
     b"/dev/null",
     b"--flat",
+    b"--layout",
+    b"1",
     b"--levels",
     b"1",
     b"--steps",
@@ -150,7 +152,7 @@ fn each_option_is_answered(rt: HostRuntime) -> Result<(), Fail> {
             .starts_with(b"trapped illegal pc 00000000\nretired 0\nlies 0\nreport ")
     );
     let mut wrong = RUN;
-    wrong[19] = b"none".as_slice();
+    wrong[21] = b"none".as_slice();
     let (status, note) = answered(&rt, &wrong)?;
     assert_eq!(rt; status, 2);
     assert!(rt;

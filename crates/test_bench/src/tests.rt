@@ -80,7 +80,7 @@ fn generated_programs_are_summed_up(rt: HostRuntime) -> Result<(), Fail> {
     Ok(())
 }
 
-type Report = Option<[u8; 158]>;
+type Report = Option<[u8; 159]>;
 
 fn report(done: &Done) -> Report {
     match &done.run {

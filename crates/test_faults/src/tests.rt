@@ -543,7 +543,15 @@ const ZERO_REPORT: &[u8] = b"01\
     00000000000000000000000000000000000000000000000000000000000000000000000000000000\
     00000000000000000000000000000000000000000000000000000000000000000000000000";
 
-const ONE_LINES: [OneLine<'static>; 9] = [
+const ONE_LINES: [OneLine<'static>; 10] = [
+    OneLine {
+        words: &["chip", "plain", "f", "--layout", "2", "--levels", "6"],
+        bytes: b"",
+        script: b"",
+        told: b"usage levels\n",
+        status: 2,
+        untold: 2,
+    },
     OneLine {
         words: &["chip", "run", "f", "--tags", "md5"],
         bytes: b"",

@@ -2,4 +2,6 @@
 #![tactic(auto)]
 
 #[cfg(test)]
+mod layout_2;
+#[cfg(test)]
 mod tests;

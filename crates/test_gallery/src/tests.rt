@@ -1,8 +1,10 @@
 // The gallery of attacks: each script of examples/attacks by its own text, on the program and with the tags that the page
 // there tries it with. What is told is that of an independent model in Python (hashlib, hmac, cryptography).
 use chip_cases::{
-    Attack, READ_UNTOUCHED, STORE_AND_PRINT, STORE_FAR_APART, STORE_TWICE, call_attack,
+    Attack, READ_UNTOUCHED, STORE_AND_PRINT, STORE_FAR_APART, STORE_TWICE, call_attack_under,
 };
+use std::alloc::Global;
+use std::process::Abort;
 use std::test::Fail;
 
 // It exits with 7, and its code is evicted before its first fetch.
@@ -68,7 +70,7 @@ read data 0 1: flip data 0 2 10
 read data 0 1: flip data 0 18 10
 ";
 
-const FLIP: &[u8] = b"# Flips one bit of line 5 as store_and_print reads it back.
+pub(crate) const FLIP: &[u8] = b"# Flips one bit of line 5 as store_and_print reads it back.
 read data 5 1: flip data 5 0 01
 ";
 
@@ -78,7 +80,7 @@ const SPLICE_LINES: &[u8] =
 read data 5 1: swap data 5 data 6
 ";
 
-const SPLICE_NODES: &[u8] =
+pub(crate) const SPLICE_NODES: &[u8] =
     b"# Swaps two nodes of the tree while the chip has a copy of neither: the node with
 # the tags of counter blocks 32 to 35 and the one with those of blocks 64 to 67.
 # Both were written once.
@@ -115,7 +117,7 @@ write data 4101 2: restore 0 data 2053
 write data 4101 2: restore 1 node 0 32
 ";
 
-const REPLAY_BRANCH: &[u8] =
+pub(crate) const REPLAY_BRANCH: &[u8] =
     b"# The same with the node above the block. They are put back once that node was
 # written twice, as line 6149 is written back before the third store.
 write data 6149 1: save 0 data 2053
@@ -145,7 +147,8 @@ const ATTACK_THAT_WAITS: &[u8] =
 write data 6 1: flip data 5 0 01
 ";
 
-const JUNK_AT_POWER_ON: &[u8] = b"# Fills places with junk before the chip's first access.
+pub(crate) const JUNK_AT_POWER_ON: &[u8] =
+    b"# Fills places with junk before the chip's first access.
 access 1: set data 5 0 deadbeef
 access 1: set data 100 0 deadbeef
 access 1: set node 0 0 0 deadbeef
@@ -197,7 +200,7 @@ read node 1 8 1: flip node 1 8 0 cdd9952ef93fe00084eb9f1953edd103
 read node 1 8 1: flip node 1 8 16 cdd9952ef93fe00084eb9f1953edd103
 ";
 
-const EARLIER_RUN: &[u8] =
+pub(crate) const EARLIER_RUN: &[u8] =
     b"# Answers line 5 of store_and_print with what an earlier run of bank wrote there
 # under the same device key: ciphertext and tag of the balance 100.
 read data 5 1: put data 5 24d692a43d31e6987ed5a46dbf5bca39030d8b881a9df52273bffd777d2666fef434205fde381197f9093d6e5d7d963bf46e671de7eff1e8f46c06f551a33e3ded36f8f697f8326475f7c28ad3dc5363
@@ -442,34 +445,36 @@ tag ed36f8f697f8326475f7c28ad3dc5363
     },
 ];
 
-#[test]
-fn what_is_changed_or_spliced_is_caught(rt: HostRuntime) -> Result<(), Fail> {
-    for attack in CAUGHT {
-        assert_eq!(rt; call_attack(rt.alloc(), attack)?.shown(), attack.shown());
+// What each attack comes to under a layout.
+pub(crate) fn check_attacks(
+    rt: &impl Abort,
+    alloc: Global,
+    layout: &str,
+    attacks: &[Attack<'_>],
+) -> Result<(), Fail> {
+    for attack in attacks {
+        let call = call_attack_under(alloc, layout, *attack)?;
+        assert_eq!(rt; call.shown(), attack.shown());
     }
     Ok(())
+}
+
+#[test]
+fn what_is_changed_or_spliced_is_caught(rt: HostRuntime) -> Result<(), Fail> {
+    check_attacks(&rt, rt.alloc(), "1", &CAUGHT)
 }
 
 #[test]
 fn replays_are_caught_where_the_parent_is_newer(rt: HostRuntime) -> Result<(), Fail> {
-    for attack in REPLAYS {
-        assert_eq!(rt; call_attack(rt.alloc(), attack)?.shown(), attack.shown());
-    }
-    Ok(())
+    check_attacks(&rt, rt.alloc(), "1", &REPLAYS)
 }
 
 #[test]
 fn what_the_chip_never_reads_does_nothing(rt: HostRuntime) -> Result<(), Fail> {
-    for attack in UNSEEN {
-        assert_eq!(rt; call_attack(rt.alloc(), attack)?.shown(), attack.shown());
-    }
-    Ok(())
+    check_attacks(&rt, rt.alloc(), "1", &UNSEEN)
 }
 
 #[test]
 fn what_passes_is_handed_out(rt: HostRuntime) -> Result<(), Fail> {
-    for attack in PASSES {
-        assert_eq!(rt; call_attack(rt.alloc(), attack)?.shown(), attack.shown());
-    }
-    Ok(())
+    check_attacks(&rt, rt.alloc(), "1", &PASSES)
 }

@@ -1,15 +1,8 @@
 // Attacks one by one. Each expected text and status is that of an independent model in Python (hashlib, hmac, cryptography).
-use chip_cases::{Attack, READ_UNTOUCHED, STORE_AND_PRINT, call_attack};
+use crate::scripts::check_attack;
+use chip_cases::{Attack, READ_UNTOUCHED, STORE_AND_PRINT};
 use std::alloc::Global;
-use std::process::Abort;
 use std::test::Fail;
-
-fn check_attack(rt: &impl Abort, alloc: Global, attack: Attack<'_>, lies: u64) -> Result<(), Fail> {
-    let call = call_attack(alloc, attack)?;
-    assert_eq!(rt; call.shown(), attack.shown());
-    assert_eq!(rt; call.done.lies, lies);
-    Ok(())
-}
 
 // An access that is never made, and a node that is never read; a write, which replaces what was changed; and a counter block that
 // stays on the chip, so that nothing is put back.
@@ -31,7 +24,7 @@ fn what_is_not_read_or_is_written_over_is_no_lie(rt: HostRuntime) -> Result<(), 
             told: b"halted 65\nretired 20\nlies 0\n",
             status: 0,
         };
-        check_attack(&rt, rt.alloc(), attack, 0)?;
+        check_attack(&rt, rt.alloc(), "4", attack, 0)?;
     }
     Ok(())
 }
@@ -47,7 +40,7 @@ fn what_is_put_back_of_a_block_that_is_read_is_caught(rt: HostRuntime) -> Result
         told: b"tampered node 0 0\nretired 12\nlies 1\n",
         status: 5,
     };
-    check_attack(&rt, rt.alloc(), attack, 1)
+    check_attack(&rt, rt.alloc(), "4", attack, 1)
 }
 
 // A line that flips a bit, so many times over, and as many lines that act before the first access and change nothing.
@@ -72,7 +65,7 @@ fn a_long_script_acts_by_every_line(rt: HostRuntime) -> Result<(), Fail> {
         told: b"halted 65\nretired 20\nlies 0\n",
         status: 0,
     };
-    check_attack(&rt, rt.alloc(), attack, 0)?;
+    check_attack(&rt, rt.alloc(), "4", attack, 0)?;
     let script = flips(rt.alloc(), 501)?;
     let attack = Attack {
         script: script.as_slice(),
@@ -80,7 +73,7 @@ fn a_long_script_acts_by_every_line(rt: HostRuntime) -> Result<(), Fail> {
         status: 5,
         ..attack
     };
-    check_attack(&rt, rt.alloc(), attack, 1)
+    check_attack(&rt, rt.alloc(), "4", attack, 1)
 }
 
 // It stores A in a line that goes out, reads it, stores the next letter beside it, prints both from the line, which was out
@@ -152,7 +145,7 @@ fn a_forged_line_is_what_the_program_sees(rt: HostRuntime) -> Result<(), Fail> {
             told,
             status,
         };
-        check_attack(&rt, rt.alloc(), attack, lies)?;
+        check_attack(&rt, rt.alloc(), "4", attack, lies)?;
     }
     Ok(())
 }

@@ -2,10 +2,8 @@
 // program stores three times into the last byte of memory and into two bytes far below it: the lines share a set, and so do their
 // counter blocks and the nodes above up to level 5. It makes 75 accesses. Each expected text is that of an independent model in
 // Python (bench/attacks.py: hashlib, hmac, cryptography).
-use chip_cases::{Call, READ_UNTOUCHED, STORE_AND_PRINT, attack_files, make_call, shows};
-use sec_base::NoMemory;
-use std::alloc::Global;
-use std::process::Abort;
+use crate::scripts::{Mended, Target, check_attack};
+use chip_cases::{Attack, READ_UNTOUCHED, STORE_AND_PRINT};
 use std::test::Fail;
 
 const STORE_LAST: &[u8] = b"_start: lui  t0, 0x10000
@@ -24,32 +22,11 @@ again:  sb   t3, -1(t0)
         ecall
 ";
 
-// The run of an assembly text in that memory, by a script.
-fn call_largest(alloc: Global, text: &[u8], tags: &str, script: &[u8]) -> Result<Call, NoMemory> {
-    let mut files = attack_files(alloc, text, script)?;
-    let words = [
-        "chip", "run", "p", "--script", "s", "--levels", "8", "--tags", tags,
-    ];
-    make_call(alloc, &words, &mut files, &[], &[])
-}
-
-// Runs the program by a script: what is told, the status, and how many answers were false.
-fn check_run(
-    rt: &impl Abort,
-    alloc: Global,
-    tags: &str,
-    script: &[u8],
-    told: &[u8],
-    status: u8,
-    lies: u64,
-) -> Result<(), Fail> {
-    let call = call_largest(alloc, STORE_LAST, tags, script)?;
-    assert_eq!(rt;
-        (call.shown(), call.done.lies),
-        (shows(b"", told, status), lies)
-    );
-    Ok(())
-}
+const TARGET: Target<'static> = Target {
+    text: STORE_LAST,
+    levels: "8",
+    told: b"halted 67\nretired 26\nlies 0\n",
+};
 
 // Scripts that mend no tag, and what is told.
 const CAUGHT: [(&[u8], &[u8]); 11] = [
@@ -105,8 +82,7 @@ const CAUGHT: [(&[u8], &[u8]); 11] = [
 #[test]
 fn the_last_places_that_are_changed_are_caught(rt: HostRuntime) -> Result<(), Fail> {
     for &(script, told) in &CAUGHT {
-        check_run(&rt, rt.alloc(), "hmac", script, told, 5, 1)?;
-        check_run(&rt, rt.alloc(), "xor", script, told, 5, 1)?;
+        TARGET.check_caught(&rt, rt.alloc(), script, told)?;
     }
     Ok(())
 }
@@ -127,22 +103,13 @@ const UNSEEN: [&[u8]; 6] = [
 
 #[test]
 fn the_last_places_are_changed_and_nobody_reads_it(rt: HostRuntime) -> Result<(), Fail> {
-    let told = b"halted 67\nretired 26\nlies 0\n";
     for script in &UNSEEN {
-        check_run(&rt, rt.alloc(), "hmac", script, told, 0, 0)?;
+        TARGET.check_unseen(&rt, rt.alloc(), script)?;
     }
     Ok(())
 }
 
-// A script that mends the tag `xor`, what is told with tags that nobody can forge, and what with weak ones.
-#[derive(Clone, Copy)]
-struct Mended<'a> {
-    script: &'a [u8],
-    caught: &'a [u8],
-    passed: &'a [u8],
-    lies: u64,
-}
-
+// Scripts that mend the tag `xor`.
 const MENDED: [Mended<'static>; 3] = [
     // The byte that the program exits with.
     Mended {
@@ -191,71 +158,68 @@ tag cdd942d1f939e00084eb9f1953edd103
 #[test]
 fn the_last_places_with_weak_tags_pass(rt: HostRuntime) -> Result<(), Fail> {
     for mended in &MENDED {
-        check_run(&rt, rt.alloc(), "hmac", mended.script, mended.caught, 5, 1)?;
-        let (passed, lies) = (mended.passed, mended.lies);
-        check_run(&rt, rt.alloc(), "xor", mended.script, passed, 7, lies)?;
+        TARGET.check_mended(&rt, rt.alloc(), *mended)?;
     }
     Ok(())
 }
 
 // Programs that use the first pages: of the four accesses of the first the last reads line 5, and of the five of the second the
-// last two read the counter block of page 0 and line 5, as in a memory of four levels. A program, the tags, a script, and what is
-// printed, what is told and the status.
-const SMALL: [(&[u8], &str, &[u8], &[u8], &[u8], u8); 7] = [
-    (
-        STORE_AND_PRINT,
-        "hmac",
-        b"access 4: flip data 5 0 01\n",
-        b"A",
-        b"tampered data 5\nretired 17\nlies 1\n",
-        5,
-    ),
-    (
-        STORE_AND_PRINT,
-        "hmac",
-        b"access 5: flip data 5 0 01\n",
-        b"A",
-        b"halted 65\nretired 20\nlies 0\n",
-        0,
-    ),
-    (
-        READ_UNTOUCHED,
-        "hmac",
-        b"access 4: flip node 0 0 0 01\n",
-        b"",
-        b"tampered node 0 0\nretired 12\nlies 1\n",
-        5,
-    ),
-    (
-        READ_UNTOUCHED,
-        "hmac",
-        b"access 5: flip node 0 0 0 01\n",
-        b"",
-        b"halted 64\nretired 15\nlies 0\n",
-        0,
-    ),
-    (
-        READ_UNTOUCHED,
-        "hmac",
-        b"access 5: flip data 5 0 01\n",
-        b"",
-        b"tampered data 5\nretired 12\nlies 1\n",
-        5,
-    ),
-    (
-        READ_UNTOUCHED,
-        "hmac",
-        b"access 6: flip data 5 0 01\n",
-        b"",
-        b"halted 64\nretired 15\nlies 0\n",
-        0,
-    ),
-    (
-        READ_UNTOUCHED,
-        "xor",
-        b"read node 0 0 1: flip node 0 0 0 01\nread node 0 0 1: flip node 0 0 16 01\n",
-        b"",
-        b"tampered data 5
+// last two read the counter block of page 0 and line 5, as in a memory of four levels.
+const SMALL: [Attack<'static>; 7] = [
+    Attack {
+        text: STORE_AND_PRINT,
+        tags: "hmac",
+        script: b"access 4: flip data 5 0 01\n",
+        printed: b"A",
+        told: b"tampered data 5\nretired 17\nlies 1\n",
+        status: 5,
+    },
+    Attack {
+        text: STORE_AND_PRINT,
+        tags: "hmac",
+        script: b"access 5: flip data 5 0 01\n",
+        printed: b"A",
+        told: b"halted 65\nretired 20\nlies 0\n",
+        status: 0,
+    },
+    Attack {
+        text: READ_UNTOUCHED,
+        tags: "hmac",
+        script: b"access 4: flip node 0 0 0 01\n",
+        printed: b"",
+        told: b"tampered node 0 0\nretired 12\nlies 1\n",
+        status: 5,
+    },
+    Attack {
+        text: READ_UNTOUCHED,
+        tags: "hmac",
+        script: b"access 5: flip node 0 0 0 01\n",
+        printed: b"",
+        told: b"halted 64\nretired 15\nlies 0\n",
+        status: 0,
+    },
+    Attack {
+        text: READ_UNTOUCHED,
+        tags: "hmac",
+        script: b"access 5: flip data 5 0 01\n",
+        printed: b"",
+        told: b"tampered data 5\nretired 12\nlies 1\n",
+        status: 5,
+    },
+    Attack {
+        text: READ_UNTOUCHED,
+        tags: "hmac",
+        script: b"access 6: flip data 5 0 01\n",
+        printed: b"",
+        told: b"halted 64\nretired 15\nlies 0\n",
+        status: 0,
+    },
+    Attack {
+        text: READ_UNTOUCHED,
+        tags: "xor",
+        script: b"read node 0 0 1: flip node 0 0 0 01\nread node 0 0 1: flip node 0 0 16 01\n",
+        printed: b"",
+        told: b"tampered data 5
 retired 12
 lies 1
 evidence collision node 0 0
@@ -263,29 +227,15 @@ made 000000000000000000000000080000000000000000000000000000000000000000000000000
 accepted 01000000000000000000000008000000010000000000000000000000000000000000000000000000000000000000000000000000000000000000000000000000
 tag cdd9b52ef93fe00084eb9f1953edd103
 ",
-        7,
-    ),
+        status: 7,
+    },
 ];
-
-fn check_small(
-    rt: &impl Abort,
-    alloc: Global,
-    row: (&[u8], &str, &[u8], &[u8], &[u8], u8),
-) -> Result<(), Fail> {
-    let (text, tags, script, printed, told, status) = row;
-    let call = call_largest(alloc, text, tags, script)?;
-    let lies = u64::from(status != 0);
-    assert_eq!(rt;
-        (call.shown(), call.done.lies),
-        (shows(printed, told, status), lies)
-    );
-    Ok(())
-}
 
 #[test]
 fn small_programs_are_attacked_as_in_a_small_memory(rt: HostRuntime) -> Result<(), Fail> {
-    for row in SMALL {
-        check_small(&rt, rt.alloc(), row)?;
+    for attack in &SMALL {
+        let lies = u64::from(attack.status != 0);
+        check_attack(&rt, rt.alloc(), "8", *attack, lies)?;
     }
     Ok(())
 }

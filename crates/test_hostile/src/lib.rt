@@ -13,3 +13,5 @@ mod levels;
 mod node_attacks;
 #[cfg(test)]
 mod refused_files;
+#[cfg(test)]
+mod scripts;

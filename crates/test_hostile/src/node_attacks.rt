@@ -1,34 +1,15 @@
 // Attacks on counter blocks and nodes, over a program that stores three times into three lines. The counter blocks of these lines
 // share a set, and so do the nodes above: blocks and nodes of level 1 go out and come in again. It makes 45 accesses. Each
 // expected text is that of an independent model in Python (bench/attacks.py: hashlib, hmac, cryptography).
-use chip_cases::{Attack, STORE_FAR_APART, call_attack};
-use std::alloc::Global;
-use std::process::Abort;
+use crate::scripts::{Mended, Target};
+use chip_cases::STORE_FAR_APART;
 use std::test::Fail;
 
-// Runs the program by a script: what is told, the status, and how many answers were false.
-fn check_run(
-    rt: &impl Abort,
-    alloc: Global,
-    tags: &str,
-    script: &[u8],
-    told: &[u8],
-    status: u8,
-    lies: u64,
-) -> Result<(), Fail> {
-    let attack = Attack {
-        text: STORE_FAR_APART,
-        tags,
-        script,
-        printed: b"",
-        told,
-        status,
-    };
-    let call = call_attack(alloc, attack)?;
-    assert_eq!(rt; call.shown(), attack.shown());
-    assert_eq!(rt; call.done.lies, lies);
-    Ok(())
-}
+const TARGET: Target<'static> = Target {
+    text: STORE_FAR_APART,
+    levels: "4",
+    told: b"halted 67\nretired 26\nlies 0\n",
+};
 
 // Scripts that mend no tag, and what is told.
 const CAUGHT: [(&[u8], &[u8]); 9] = [
@@ -78,8 +59,7 @@ const CAUGHT: [(&[u8], &[u8]); 9] = [
 #[test]
 fn a_node_that_is_changed_or_older_than_its_parent_is_caught(rt: HostRuntime) -> Result<(), Fail> {
     for &(script, told) in &CAUGHT {
-        check_run(&rt, rt.alloc(), "hmac", script, told, 5, 1)?;
-        check_run(&rt, rt.alloc(), "xor", script, told, 5, 1)?;
+        TARGET.check_caught(&rt, rt.alloc(), script, told)?;
     }
     Ok(())
 }
@@ -97,22 +77,13 @@ const UNSEEN: [&[u8]; 5] = [
 
 #[test]
 fn what_is_never_read_or_written_first_does_nothing(rt: HostRuntime) -> Result<(), Fail> {
-    let told = b"halted 67\nretired 26\nlies 0\n";
     for script in &UNSEEN {
-        check_run(&rt, rt.alloc(), "hmac", script, told, 0, 0)?;
+        TARGET.check_unseen(&rt, rt.alloc(), script)?;
     }
     Ok(())
 }
 
-// A script that mends the tag `xor`, what is told with tags that nobody can forge, and what with weak ones.
-#[derive(Clone, Copy)]
-struct Mended<'a> {
-    script: &'a [u8],
-    caught: &'a [u8],
-    passed: &'a [u8],
-    lies: u64,
-}
-
+// Scripts that mend the tag `xor`.
 const MENDED: [Mended<'static>; 4] = [
     // The slot that is in use is false now: the block below is found out.
     Mended {
@@ -175,9 +146,7 @@ tag cdd9952ef93fe00084eb9f1953edd103
 #[test]
 fn a_node_whose_weak_tag_is_mended_passes(rt: HostRuntime) -> Result<(), Fail> {
     for mended in &MENDED {
-        check_run(&rt, rt.alloc(), "hmac", mended.script, mended.caught, 5, 1)?;
-        let (passed, lies) = (mended.passed, mended.lies);
-        check_run(&rt, rt.alloc(), "xor", mended.script, passed, 7, lies)?;
+        TARGET.check_mended(&rt, rt.alloc(), *mended)?;
     }
     Ok(())
 }

@@ -107,17 +107,17 @@ fn scripts_are_refused(rt: HostRuntime) -> Result<(), Fail> {
     Ok(())
 }
 
-// Of 316 digits one line feed is dropped and no second one, and no carriage return.
+// Of 318 digits one line feed is dropped and no second one, and no carriage return.
 #[test]
 fn a_report_of_another_length_is_refused(rt: HostRuntime) -> Result<(), Fail> {
     let told = b"refused report 1 Length\n";
     let ends: [&[u8]; 5] = [b"\n\n", b"\r\n", b" ", b"0", b"\n0"];
     for end in ends {
-        let mut text = vec![in rt.alloc(); b'0'; 316]?;
+        let mut text = vec![in rt.alloc(); b'0'; 318]?;
         text.extend_from_slice(end)?;
         check_refused(&rt, rt.alloc(), &VERIFY, text.as_slice(), b"", told)?;
     }
-    for length in 0..316usize {
+    for length in (0..316usize).chain([317, 319]) {
         let text = vec![in rt.alloc(); b'0'; length]?;
         check_refused(&rt, rt.alloc(), &VERIFY, text.as_slice(), b"", told)?;
     }

@@ -14,7 +14,11 @@ const DIGEST_SMALL: &[u8] = b"16f7bfdd45a5acd592864f31537f995066d1d163ad715d1d9d
 // In 256 MiB.
 const DIGEST_LARGEST: &[u8] = b"028306c0ef998a7844b921aa32c3cd5fd3a86d5a5de085b93c33ad2d7f625d6a\n";
 
-const CASES: [Case<'static>; 9] = [
+// In the 2 MiB of three levels of layout 2.
+const DIGEST_OF_LAYOUT_2: &[u8] =
+    b"8d5b9b9e535a63c6ce074ea6855f02a73af1b973c7494775a3a55423c9e6e1bf\n";
+
+const CASES: [Case<'static>; 11] = [
     Case {
         words: &DIS,
         bytes: EXIT_7_BYTES,
@@ -47,6 +51,20 @@ const CASES: [Case<'static>; 9] = [
         words: &["chip", "measure", "f", "--flat", "--levels", "8"],
         bytes: EXIT_7_BYTES,
         printed: DIGEST_LARGEST,
+        told: b"",
+        status: 0,
+    },
+    Case {
+        words: &["chip", "measure", "f", "--flat", "--layout", "2"],
+        bytes: EXIT_7_BYTES,
+        printed: DIGEST_OF_LAYOUT_2,
+        told: b"",
+        status: 0,
+    },
+    Case {
+        words: &["chip", "dis", "f", "--layout", "2", "--levels", "1"],
+        bytes: &EXIT_7_ELF,
+        printed: LISTING,
         told: b"",
         status: 0,
     },

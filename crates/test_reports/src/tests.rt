@@ -1,7 +1,7 @@
 // Reports of runs, from an independent model in Python (hashlib, hmac, cryptography).
 use chip_cases::{
-    Call, EXIT_7, MEASURE, PLAIN, PRINT_A, REPORT, REPORT_OF_KEY, REPORT_TARGET, RUN, RUN_SMALL,
-    Shown, call_program, file, make_call, program, shows,
+    Call, EXIT_7, MEASURE, PLAIN, PRINT_A, REPORT, REPORT_OF_KEY, REPORT_OF_LAYOUT_2,
+    REPORT_TARGET, RUN, RUN_SMALL, Shown, call_program, file, make_call, program, shows,
 };
 use sec_base::{MemoryFiles, NoMemory};
 use std::alloc::{AllocError, Global};
@@ -9,47 +9,47 @@ use std::process::Abort;
 use std::test::Fail;
 
 // Of the program that exits with 7 in 16 KiB; of an empty program; of one that prints the front of its input.
-const REPORT_SMALL: &[u8; 316] = b"\
-    0116f7bfdd45a5acd592864f31537f995066d1d163ad715d1d9d9d83c121daa865\
+const REPORT_SMALL: &[u8; 318] = b"\
+    020116f7bfdd45a5acd592864f31537f995066d1d163ad715d1d9d9d83c121daa865\
     e3b0c44298fc1c149afbf4c8996fb92427ae41e4649b934ca495991b7852b855\
     e3b0c44298fc1c149afbf4c8996fb92427ae41e4649b934ca495991b7852b855\
     0300000000000000000700000000000000000000000000000000000000\
-    501e58bc43e5f84a35573da9604294a829da186a54c7877171303106882a6f34";
+    a25541ec785f4c965cb7ff7514bf8ab1b867002c54fb8ebc875a48dc886e848d";
 
-const REPORT_EMPTY: &[u8; 316] = b"\
-    01a1deabe0422101391ed98c8ceacd6eae5782cd909615ce05a75886f1ee8c9475\
+const REPORT_EMPTY: &[u8; 318] = b"\
+    0201a1deabe0422101391ed98c8ceacd6eae5782cd909615ce05a75886f1ee8c9475\
     e3b0c44298fc1c149afbf4c8996fb92427ae41e4649b934ca495991b7852b855\
     e3b0c44298fc1c149afbf4c8996fb92427ae41e4649b934ca495991b7852b855\
     0000000000000000010100000000000000000000000000000000000000\
-    3311c8f8e9d6fd369df950e9c487088d3f38cb0aa2ea424f441910e004c837d8";
+    1619c18c3c9ac07ba7d2bf3b4a9a25565d3e1231b4c68fc8c00724261a7bf657";
 
-const REPORT_INPUT: &[u8; 316] = b"\
-    01edcc053922037030c8b33979f1e0c75d28be107672d0167931650e51872c53f6\
+const REPORT_INPUT: &[u8; 318] = b"\
+    0201edcc053922037030c8b33979f1e0c75d28be107672d0167931650e51872c53f6\
     09ca7e4eaa6e8ae9c7d261167129184883644d07dfba7cbfbc4c8a2e08360d5b\
     d6a81f224bbf2f7c22baddbd5d40730eb20cfb0b3d74e10cab61788214caceb1\
     0d00000000000000007856341200112233445566778899aabbccddeeff\
-    b03eea9af2d1c28e250b0add4163e496c6ee90d046fc9eb3c58ef6dfec5914ae";
+    578f74c77c347c9de346ce8263d219f7ab34eb1bbcb5e6cda3e1415b31db88ed";
 
-const REPORT_OUT_OF_STEPS: &[u8; 316] = b"\
-    0116f7bfdd45a5acd592864f31537f995066d1d163ad715d1d9d9d83c121daa865\
+const REPORT_OUT_OF_STEPS: &[u8; 318] = b"\
+    020116f7bfdd45a5acd592864f31537f995066d1d163ad715d1d9d9d83c121daa865\
     e3b0c44298fc1c149afbf4c8996fb92427ae41e4649b934ca495991b7852b855\
     e3b0c44298fc1c149afbf4c8996fb92427ae41e4649b934ca495991b7852b855\
     0200000000000000040000000000000000000000000000000000000000\
-    9eb279eb706f939cc3b2da1675014f85973d6549862573a2d935d01ca2d10eb8";
+    1628c60bf717ba0c4ad955a5e9a72166b417980e706edab3507d6a7d5292395b";
 
-const REPORT_SPENT: &[u8; 316] = b"\
-    01ad7cddc78d019d545d3b9f7243321c2f4becb979c95ff736b06c30abba952a2c\
+const REPORT_SPENT: &[u8; 318] = b"\
+    0201ad7cddc78d019d545d3b9f7243321c2f4becb979c95ff736b06c30abba952a2c\
     e3b0c44298fc1c149afbf4c8996fb92427ae41e4649b934ca495991b7852b855\
     e3b0c44298fc1c149afbf4c8996fb92427ae41e4649b934ca495991b7852b855\
     0002000000000000060000000000000000000000000000000000000000\
-    624ca9c796f24e04f308ca1cc9fb50fc0a071f535a132ea5fc5fbb866403c091";
+    fffebb2bafff5a9b2249ce2b43d890092ff4ec604045c20ab3826f7342b4bef6";
 
-const REPORT_TAMPERED: &[u8; 316] = b"\
-    01ad7cddc78d019d545d3b9f7243321c2f4becb979c95ff736b06c30abba952a2c\
+const REPORT_TAMPERED: &[u8; 318] = b"\
+    0201ad7cddc78d019d545d3b9f7243321c2f4becb979c95ff736b06c30abba952a2c\
     e3b0c44298fc1c149afbf4c8996fb92427ae41e4649b934ca495991b7852b855\
     e3b0c44298fc1c149afbf4c8996fb92427ae41e4649b934ca495991b7852b855\
     0700000000000000050000000000000000000000000000000000000000\
-    f701e9163f1f5e1fddb441ba729868ecffa011bb3732d083e46e761342d1d01d";
+    79694a7f543f057eedfd5f5625679018b2b2245f43d114de80704a530051d56e";
 
 // It reads five bytes of its input, prints three of them, and exits with 0x12345678.
 const PRINT_3: [u32; 13] = [
@@ -90,11 +90,11 @@ struct Reported<'a> {
     code: &'a [u32],
     printed: &'a [u8],
     told: &'a [u8],
-    report: &'a [u8; 316],
+    report: &'a [u8; 318],
     status: u8,
 }
 
-const REPORTED: [Reported<'static>; 9] = [
+const REPORTED: [Reported<'static>; 10] = [
     Reported {
         options: &[],
         code: &EXIT_7,
@@ -113,6 +113,14 @@ const REPORTED: [Reported<'static>; 9] = [
         printed: b"",
         told: b"halted 7\nretired 3\nlies 0\n",
         report: REPORT_OF_KEY,
+        status: 0,
+    },
+    Reported {
+        options: &["--layout", "2"],
+        code: &EXIT_7,
+        printed: b"",
+        told: b"halted 7\nretired 3\nlies 0\n",
+        report: REPORT_OF_LAYOUT_2,
         status: 0,
     },
     Reported {
@@ -193,7 +201,7 @@ fn run_files(alloc: Global, code: &[u32]) -> Result<MemoryFiles, NoMemory> {
 }
 
 // A text with the line of a report at its end.
-fn with_report(alloc: Global, told: &[u8], report: &[u8; 316]) -> Result<Vec<u8>, AllocError> {
+fn with_report(alloc: Global, told: &[u8], report: &[u8; 318]) -> Result<Vec<u8>, AllocError> {
     let mut text = told.to_vec(alloc)?;
     text.extend_from_slice(b"report ")?;
     text.extend_from_slice(report)?;
@@ -249,14 +257,14 @@ fn no_report_is_told(rt: HostRuntime) -> Result<(), Fail> {
 }
 
 // The digits of a measurement in a report, with a line feed.
-fn measurement_in(alloc: Global, report: &[u8; 316]) -> Result<Vec<u8>, AllocError> {
+fn measurement_in(alloc: Global, report: &[u8; 318]) -> Result<Vec<u8>, AllocError> {
     let report = report.as_slice();
-    let mut digits = report[2..66].to_vec(alloc)?;
+    let mut digits = report[4..68].to_vec(alloc)?;
     digits.push(b'\n')?;
     Ok(digits)
 }
 
-// The 64 digits of a measurement are those that a report has behind its version.
+// The 64 digits of a measurement are those that a report has behind its version and its layout.
 #[test]
 fn a_measurement_is_that_of_the_report(rt: HostRuntime) -> Result<(), Fail> {
     let digits = measurement_in(rt.alloc(), REPORT)?;

@@ -5,7 +5,7 @@ use std::alloc::Global;
 use std::process::Abort;
 use std::test::Fail;
 
-const OTHER_WORDS: [&[&str]; 18] = [
+const OTHER_WORDS: [&[&str]; 21] = [
     &[],
     &["chip"],
     &["run", "f", "--flat"],
@@ -24,6 +24,9 @@ const OTHER_WORDS: [&[&str]; 18] = [
     &["chip", "bench", "4294967296"],
     &["chip", "bench", "-1"],
     &["chip", "bench", "0", "--flat"],
+    &["chip", "bench", "0", "--layout", "2"],
+    &["chip", "verify", "f", "--layout", "2"],
+    &["chip", "run", "f", "--flat", "--layout", "3"],
 ];
 
 fn call_is_usage(alloc: Global, words: &[&str]) -> Result<bool, NoMemory> {
@@ -117,7 +120,7 @@ fn a_fault_of_note_keeps_a_refusal(rt: HostRuntime) -> Result<(), Fail> {
 // A key of 63 digits, and no nonce's 32.
 const ZEROS: &str = "000000000000000000000000000000000000000000000000000000000000000";
 
-const OTHER_VALUES: [(&[&str], &[u8]); 7] = [
+const OTHER_VALUES: [(&[&str], &[u8]); 13] = [
     (&["chip", "run", "p", "--tags", "md5"], b"usage tags\n"),
     (&["chip", "run", "p", "--key", "00"], b"usage key\n"),
     (&["chip", "run", "p", "--key", ZEROS], b"usage key\n"),
@@ -131,6 +134,32 @@ const OTHER_VALUES: [(&[&str], &[u8]); 7] = [
         &["chip", "run", "p", "--key", "0", "--tags", "md5"],
         b"usage tags\n",
     ),
+    (
+        &[
+            "chip", "run", "p", "--tags", "md5", "--layout", "2", "--levels", "8",
+        ],
+        b"usage levels\n",
+    ),
+    (
+        &["chip", "run", "p", "--layout", "2", "--levels", "6"],
+        b"usage levels\n",
+    ),
+    (
+        &["chip", "plain", "p", "--layout", "2", "--levels", "6"],
+        b"usage levels\n",
+    ),
+    (
+        &["chip", "asm", "p", "--layout", "2", "--levels", "7"],
+        b"usage levels\n",
+    ),
+    (
+        &["chip", "dis", "p", "--layout", "2", "--levels", "8"],
+        b"usage levels\n",
+    ),
+    (
+        &["chip", "measure", "p", "--layout", "2", "--levels", "6"],
+        b"usage levels\n",
+    ),
 ];
 
 fn check(rt: &impl Abort, alloc: Global, words: &[&str], told: &[u8]) -> Result<(), Fail> {
@@ -139,9 +168,9 @@ fn check(rt: &impl Abort, alloc: Global, words: &[&str], told: &[u8]) -> Result<
     Ok(())
 }
 
-// The first of tags, key and nonce is told, before any file is read: there is none.
+// The first of levels, tags, key and nonce is told, before any file is read: there is none.
 #[test]
-fn tags_keys_and_nonces_are_checked(rt: HostRuntime) -> Result<(), Fail> {
+fn levels_tags_keys_and_nonces_are_checked(rt: HostRuntime) -> Result<(), Fail> {
     for (words, told) in OTHER_VALUES {
         check(&rt, rt.alloc(), words, told)?;
     }

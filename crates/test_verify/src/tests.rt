@@ -1,7 +1,7 @@
 // Checks of reports. The reports are from an independent model in Python (hashlib, hmac, cryptography).
 use chip_cases::{
-    Call, Case, FIELDS, REPORT, REPORT_OF_KEY, REPORT_TARGET, Shown, VERIFY, call_file, edited,
-    shows,
+    Call, Case, FIELDS, REPORT, REPORT_OF_KEY, REPORT_OF_LAYOUT_2, REPORT_OF_VERSION_1,
+    REPORT_TARGET, Shown, VERIFY, call_file, edited, shows,
 };
 use sec_base::NoMemory;
 use std::alloc::Global;
@@ -32,6 +32,7 @@ output e3b0c44298fc1c149afbf4c8996fb92427ae41e4649b934ca495991b7852b855
 retired 1
 ending 1 code 2
 nonce 00000000000000000000000000000000
+layout 1
 ";
 
 const VERIFY_UNDER_KEY: [&str; 5] = [
@@ -49,13 +50,49 @@ output e3b0c44298fc1c149afbf4c8996fb92427ae41e4649b934ca495991b7852b855
 retired 3
 ending 0 code 7
 nonce 101112131415161718191a1b1c1d1e1f
+layout 1
 ";
 
-const CASES: [Case<'static>; 6] = [
+// The memory of three levels under layout 2 has twice the bytes of one of four under layout 1, so it is measured otherwise.
+const FIELDS_OF_LAYOUT_2: &[u8] = b"\
+measurement 8d5b9b9e535a63c6ce074ea6855f02a73af1b973c7494775a3a55423c9e6e1bf
+input e3b0c44298fc1c149afbf4c8996fb92427ae41e4649b934ca495991b7852b855
+output e3b0c44298fc1c149afbf4c8996fb92427ae41e4649b934ca495991b7852b855
+retired 3
+ending 0 code 7
+nonce 00000000000000000000000000000000
+layout 2
+";
+
+// A report of version 1 names no layout.
+const FIELDS_OF_VERSION_1: &[u8] = b"\
+measurement 16f50c65e5d32ef308c297c15f9cdae14c3f482dd9e03853348a497b7abe0a1a
+input e3b0c44298fc1c149afbf4c8996fb92427ae41e4649b934ca495991b7852b855
+output e3b0c44298fc1c149afbf4c8996fb92427ae41e4649b934ca495991b7852b855
+retired 3
+ending 0 code 7
+nonce 00000000000000000000000000000000
+";
+
+const CASES: [Case<'static>; 8] = [
     Case {
         words: &VERIFY,
         bytes: REPORT,
         printed: FIELDS,
+        told: b"",
+        status: 0,
+    },
+    Case {
+        words: &VERIFY,
+        bytes: REPORT_OF_LAYOUT_2,
+        printed: FIELDS_OF_LAYOUT_2,
+        told: b"",
+        status: 0,
+    },
+    Case {
+        words: &VERIFY,
+        bytes: REPORT_OF_VERSION_1,
+        printed: FIELDS_OF_VERSION_1,
         told: b"",
         status: 0,
     },
@@ -105,11 +142,14 @@ fn reports_are_checked(rt: HostRuntime) -> Result<(), Fail> {
 }
 
 // A digit of the report, what stands there in its place, what is told, and the status.
-const EDITS: [((usize, u8), &[u8], u8); 4] = [
-    ((315, b'g'), b"refused report 2 Digit\n", 3),
-    ((1, b'2'), b"refused report 3 Version\n", 3),
-    ((315, b'8'), b"report tag differs\n", 11),
-    ((2, b'2'), b"report tag differs\n", 11),
+const EDITS: [((usize, u8), &[u8], u8); 7] = [
+    ((317, b'g'), b"refused report 2 Digit\n", 3),
+    ((1, b'1'), b"refused report 3 Version\n", 3),
+    ((3, b'0'), b"refused report 3 Version\n", 3),
+    ((3, b'3'), b"refused report 3 Version\n", 3),
+    ((3, b'2'), b"report tag differs\n", 11),
+    ((317, b'8'), b"report tag differs\n", 11),
+    ((4, b'2'), b"report tag differs\n", 11),
 ];
 
 fn call_edited(alloc: Global, edit: (usize, u8)) -> Result<Call, NoMemory> {
@@ -139,7 +179,7 @@ fn a_report_has_its_form(rt: HostRuntime) -> Result<(), Fail> {
     let call = call_upper(rt.alloc());
     check_call(&rt, call, shows(FIELDS, b"", 0), &"upper case")?;
     let report = REPORT.as_slice();
-    let call = call_file(rt.alloc(), &VERIFY, &report[..315]);
+    let call = call_file(rt.alloc(), &VERIFY, &report[..317]);
     let told = b"refused report 1 Length\n";
     check_call(&rt, call, shows(b"", told, 3), &"cut off")?;
     Ok(())
