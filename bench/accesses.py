@@ -27,14 +27,20 @@ def arguments():
     parser = argparse.ArgumentParser(description=__doc__, formatter_class=argparse.RawDescriptionHelpFormatter)
     parser.add_argument("file", metavar="FILE", help="the program: an ELF file, or with --flat a flat file")
     parser.add_argument("--flat", action="store_true")
-    parser.add_argument("--levels", type=int, choices=range(1, 9), default=4, metavar="L", help="1 to 8, default 4")
+    parser.add_argument("--layout", type=int, choices=model.LAYOUTS, default=1, metavar="N", help="1 or 2, default 1")
+    parser.add_argument("--levels", type=int, metavar="L", help="1 to 8, default 4; under layout 2 1 to 5, default 3")
     parser.add_argument("--input", metavar="F", help="the file that the program reads")
     parser.add_argument("--steps", type=int, default=10000000, metavar="N", help="default 10000000")
     parser.add_argument("--trace", action="store_true", help="a line for each access")
     parser.add_argument("--plot", action="store_true", help="draw NAME.accesses.svg")
     parser.add_argument("--check", type=int, default=0, metavar="N", help="compare N accesses with the program")
     parser.add_argument("--program", metavar="PATH", help="the program chip; else this checkout's")
-    return parser.parse_args()
+    options = parser.parse_args()
+    try:
+        options.shape = model.Shape(options.layout, options.levels)
+    except model.Refused as fault:
+        parser.error(fault)
+    return options
 
 
 def place_of(level, index):
@@ -62,13 +68,13 @@ def observed(options):
     """The machine after its run, how it ended, its counts as it began to run, and the log."""
     try:
         given = open(options.input, "rb").read() if options.input else b""
-        program = model.read_program(options.file, options.flat, options.levels)
+        program = model.read_program(options.file, options.flat, options.shape)
     except OSError as fault:
         sys.exit(f"accesses: {fault.filename}: {fault.strerror}")
     except model.Refused as fault:
         sys.exit(f"accesses: {options.file}: {fault}")
     log = Log(options.trace, options.check or options.plot)
-    machine = model.Machine(program, options.levels, given, log.see)
+    machine = model.Machine(program, options.shape, given, log.see)
     log.machine = machine
     memory = machine.memory
     before = memory.total, memory.uses, memory.hits, memory.overflows, memory.count.copy()
@@ -82,16 +88,16 @@ def name_of(level):
     return {model.DATA: "data lines", 0: "counter blocks"}.get(level, f"nodes of level {level}")
 
 
-def report(machine, ending, before, levels):
+def report(machine, ending, before):
     memory = machine.memory
     stored, uses, hits, overflows, storing = before
     running = memory.count - storing
     ran, used = memory.total - stored, memory.uses - uses
-    print(f"{ending}, retired {machine.retired:,}, {levels} levels")
+    print(f"{ending}, retired {machine.retired:,}, {memory.shape}")
     print(f"accesses: storing {stored:,}, run {ran:,}")
     print(f"{'':<18} {'storing':>9} {'':>9} {'run':>9}")
     print(f"{'':<18} {'reads':>9} {'writes':>9} {'reads':>9} {'writes':>9}")
-    for level in [model.DATA, *range(levels + 1)]:
+    for level in [model.DATA, *range(memory.shape.levels + 1)]:
         counts = [count[kind, level] for count in (storing, running) for kind in ("read", "write")]
         if any(counts):
             print(f"{name_of(level):<18} " + " ".join(f"{count:>9,}" for count in counts))
@@ -120,7 +126,7 @@ def plot(options, machine, log, stored):
             kinds[kind].append((at, count))
     name = os.path.splitext(os.path.basename(options.file))[0]
     path = f"{name}.accesses.svg"
-    title = f"{name}: accesses after storing, over instructions retired, {options.levels} levels"
+    title = f"{name}: accesses after storing, over instructions retired, {options.shape}"
     with open(path, "w", encoding="utf-8") as file:
         file.write(picture.draw(title, "instructions retired", "accesses after storing", kinds, dots=False))
     print(f"plot: {path}")
@@ -143,7 +149,7 @@ def first_false(accesses, chosen):
 
 def check(options, machine, ending, log):
     chip = runs.program(options.program)
-    words = [chip, "run", options.file, "--levels", str(options.levels), "--steps", str(options.steps)]
+    words = [chip, "run", options.file, *options.shape.words, "--steps", str(options.steps)]
     words += ["--flat"] if options.flat else []
     words += ["--input", options.input] if options.input else []
     chosen = random.sample(range(len(log.accesses)), min(options.check, len(log.accesses)))
@@ -166,7 +172,7 @@ def check(options, machine, ending, log):
 def main():
     options = arguments()
     machine, ending, before, log = observed(options)
-    report(machine, ending, before, options.levels)
+    report(machine, ending, before)
     if options.plot:
         plot(options, machine, log, before[0])
     return check(options, machine, ending, log) if options.check else 0

@@ -8,8 +8,12 @@ access as docs/FORMATS.md says of scripts.
 The table of attacks is three programs, five places, six actions and three triggers: 261 runs, under tags of each kind.
 Saves are made before access 1, when all of the memory is zeros. The attacks on nodes are over a program whose counter blocks
 and nodes go out, under tags of each kind too; so are those on the last places of a memory of 8 levels.
+
+--gallery prints in place of that what each script of examples/attacks comes to, by the commands of its README, under the
+layout that --layout names (1 or 2, default 1). It is no reader of scripts: it refuses none.
 """
 
+import argparse
 import collections
 import hashlib
 import hmac
@@ -21,13 +25,15 @@ import tempfile
 
 from cryptography.hazmat.primitives.ciphers import Cipher, algorithms, modes
 
+import model
 import vectors
 
 TOP = os.path.dirname(os.path.dirname(os.path.abspath(__file__)))
 TESTS = os.path.join(TOP, "crates", "test_hostile", "src")
 TEXTS = os.path.join(TOP, "crates", "chip_cases", "src", "texts.rt")
+GALLERY = os.path.join(TOP, "examples", "attacks", "README.md")
 DEVICE_KEY = bytes(range(32))
-LEVELS, MOST_LEVELS = 4, 8
+LARGEST = model.Shape(1, 8)
 NO_TAG = bytes(16)  # in the place of a tag: of a node that was never made, which is zeros and is not read
 
 
@@ -82,7 +88,7 @@ class Bus:
         elif name == "swap":
             self.stored[places[0]], self.stored[places[1]] = self.at(places[1]), self.at(places[0])
         elif name == "put":
-            self.stored[places[0]] = bytes.fromhex(words[-1])
+            self.stored[places[0]] = bytes.fromhex(words[-1]).ljust(len(zeros(places[0])), b"\0")
         else:
             before, offset, new = self.at(places[0]), int(words[-2]), bytes.fromhex(words[-1])
             old = before[offset : offset + len(new)]
@@ -149,24 +155,25 @@ class Cache:
 class Chip:
     """The protected memory. A slice of it inside one line is read and written as one of a bytearray."""
 
-    def __init__(self, bus, tags, levels):
-        self.bus, self.tags, self.levels, self.evidence = bus, tags, levels, []
+    def __init__(self, bus, tags, shape):
+        self.bus, self.tags, self.shape, self.evidence = bus, tags, shape, []
         keys = {name: hmac.digest(DEVICE_KEY, name.encode(), "sha256") for name in ("enc", "data", "tree")}
         self.aes = Cipher(algorithms.AES(keys["enc"][:16]), modes.ECB()).encryptor()
         self.keys, self.made, self.last = keys, set(), {}
         self.lines = Cache(64)
-        self.copies = [Cache(8 if level else 16) for level in range(levels + 1)]
+        self.copies = [Cache(8 if level else 16) for level in range(shape.levels + 1)]
         self.root = NO_TAG
 
     def tag(self, key, message):
-        """Of every tag one bit is set, so that none is zeros."""
+        """Of every tag the layout keeps what a slot keeps, and one bit is set, so that none is zeros."""
         if self.tags == "hmac":
             tag = hmac.digest(self.keys[key], message, "sha256")[:16]
         else:
             tag = self.keys[key][:16]
             for at in range(0, len(message), 16):
                 tag = xored(tag, message[at : at + 16].ljust(16, b"\0"))
-        return tag[:15] + bytes([tag[15] | 1])
+        last = self.shape.slot - 1
+        return (tag[:last] + bytes([tag[last] | 1])).ljust(16, b"\0")
 
     def node_tag(self, level, index, block):
         return self.tag("tree", b"N" + bytes([level]) + index.to_bytes(4, "little") + block)
@@ -187,15 +194,19 @@ class Chip:
             return copy
         victim, (old, changed) = self.copies[level].victim(index)
         if changed:
-            parent = self.node(level + 1, victim // 4)
-            slot = 16 * (victim % 4)
-            parent[0][slot : slot + 16], parent[1] = self.make_node(level, victim, bytes(old)), True
+            parent, made = self.node(level + 1, self.shape.parent(victim)), self.make_node(level, victim, bytes(old))
+            parent[0][self.slot(victim)], parent[1] = made[: self.shape.slot], True
         wanted = self.root
-        if level < self.levels:
-            slot = 16 * (index % 4)
-            wanted = bytes(self.node(level + 1, index // 4)[0][slot : slot + 16])
+        if level < self.shape.levels:
+            parent = self.node(level + 1, self.shape.parent(index))
+            wanted = bytes(parent[0][self.slot(index)]).ljust(16, b"\0")
         block = bytes(64) if wanted == NO_TAG else self.read_node(level, index, wanted)
         return self.copies[level].replace(victim, index, block)
+
+    def slot(self, index):
+        """Where a node's parent keeps its tag."""
+        begin = self.shape.slot * (index % self.shape.arity)
+        return slice(begin, begin + self.shape.slot)
 
     def read_node(self, level, index, wanted):
         block = self.bus.read(("node", level, index))
@@ -259,11 +270,11 @@ class Chip:
 # --- a run -----------------------------------------------------------------------------------------------------------
 
 
-def run(code, tags="hmac", script="", levels=LEVELS):
+def run(code, tags="hmac", script="", shape=model.Shape()):
     """What is printed, and what is told before the report."""
     bus = Bus(script)
-    chip, printed, retired = Chip(bus, tags, levels), b"", 0
-    registers, pc, ending = [0, 0, 4096 * 4**levels - 64] + [0] * 29, 0, None
+    chip, printed, retired = Chip(bus, tags, shape), b"", 0
+    registers, pc, ending = [0, 0, shape.size - 64] + [0] * 29, 0, None
     try:
         for at, byte in enumerate(code):
             chip[at : at + 1] = bytes([byte])
@@ -370,15 +381,15 @@ def check_table(text, programs, tags):
     return faults
 
 
-def check_places(text, code, levels):
+def check_places(text, code, shape):
     """The runs of node_attacks.rt or last_places.rt: under which tags and by which script, and what is told."""
     caught, mended = texts_of(text, "CAUGHT"), texts_of(text, "MENDED")
     runs = [(tags, script, told) for script, told in zip(caught[::2], caught[1::2]) for tags in ("hmac", "xor")]
-    runs += [("hmac", script, run(code, levels=levels)[1]) for script in texts_of(text, "UNSEEN")]
+    runs += [("hmac", script, run(code, shape=shape)[1]) for script in texts_of(text, "UNSEEN")]
     for script, told, passed in zip(mended[::3], mended[1::3], mended[2::3]):
         runs += [("hmac", script, told), ("xor", script, passed)]
-    print(f"{len(runs)} runs of attacks on places of {levels} levels")
-    came = [(tags, script, run(code, tags, script, levels)[1]) for tags, script, _ in runs]
+    print(f"{len(runs)} runs of attacks on places of {shape.levels} levels")
+    came = [(tags, script, run(code, tags, script, shape)[1]) for tags, script, _ in runs]
     return [f"{was} comes to {is_[2]!r}" for was, is_ in zip(runs, came) if was != is_]
 
 
@@ -401,14 +412,27 @@ def check_cases(text, programs):
 
 def check_small(text, programs):
     """The runs of the programs of four levels in the largest memory: the program, the tags, the script, and what it comes to."""
-    row = r'\(\s+(\w+),\s+"(\w+)",\s+b"([^"]*)",\s+b"([^"]*)",\s+b"([^"]*)",'
+    row = r'text: (\w+),\s+tags: "(\w+)",\s+script: b"([^"]*)",\s+printed: b"([^"]*)",\s+told: b"([^"]*)",'
     rows = [(name.lower(), tags, *map(literal, rest)) for name, tags, *rest in re.findall(row, block_of(text, "SMALL"))]
-    came = [run(programs[name], tags, script, MOST_LEVELS) for name, tags, script, *_ in rows]
-    print(f"{len(rows)} runs of {MOST_LEVELS} levels")
+    came = [run(programs[name], tags, script, LARGEST) for name, tags, script, *_ in rows]
+    print(f"{len(rows)} runs of {LARGEST.levels} levels")
     return [f"{was} comes to {is_}" for was, is_ in zip(rows, came) if was[3:] != is_]
 
 
-def main():
+# --- the gallery -----------------------------------------------------------------------------------------------------
+
+SHOWN = re.compile(r"^    \$ \./chip run (\w+)\.elf --script (\S+)(?: --tags (\w+))?; echo", re.MULTILINE)
+
+
+def gallery(shape):
+    for name, path, tags in SHOWN.findall(text_of(GALLERY)):
+        code = assembled(text_of(os.path.join(TOP, "examples", name + ".s")))
+        script = "".join(line for line in text_of(os.path.join(TOP, path)).splitlines(True) if not line.startswith("#"))
+        printed, told = run(code, tags or "hmac", script, shape)
+        print(f"{os.path.basename(path)}, {name}, {tags or 'hmac'}: {printed + told}", end="")
+
+
+def check():
     names = ("attack_table.rt", "attacks.rt", "node_attacks.rt", "last_places.rt")
     attack_table, attacks, node_attacks, last_places = (text_of(os.path.join(TESTS, name)) for name in names)
     sources = text_of(TEXTS) + attacks + last_places
@@ -416,10 +440,21 @@ def main():
     codes = {name.lower(): assembled(literal(text)) for name, text in texts if "ecall" in text}
     programs = {name: codes[name] for name in ("store_and_print", "store_twice", "store_200_times")}
     faults = [fault for tags in ("hmac", "xor") for fault in check_table(attack_table, programs, tags)]
-    faults += check_cases(attacks, codes) + check_places(node_attacks, codes["store_far_apart"], LEVELS)
-    faults += check_places(last_places, codes["store_last"], MOST_LEVELS) + check_small(last_places, codes)
+    faults += check_cases(attacks, codes) + check_places(node_attacks, codes["store_far_apart"], model.Shape())
+    faults += check_places(last_places, codes["store_last"], LARGEST) + check_small(last_places, codes)
     if faults:
         sys.exit("\n".join(faults))
+
+
+def main():
+    parser = argparse.ArgumentParser(description=__doc__, formatter_class=argparse.RawDescriptionHelpFormatter)
+    parser.add_argument("--gallery", action="store_true", help="what the scripts of examples/attacks come to")
+    parser.add_argument("--layout", type=int, choices=model.LAYOUTS, default=1, metavar="N", help="1 or 2, default 1")
+    options = parser.parse_args()
+    if options.gallery:
+        gallery(model.Shape(options.layout))
+    else:
+        check()
 
 
 if __name__ == "__main__":

@@ -12,12 +12,70 @@ from vectors import evaluate
 LINE, PAGE, MASK = 64, 4096, 0xFFFFFFFF
 DATA = None  # the level of a data line; counter blocks are the nodes of level 0
 LAST_LINE_COUNTER = 127
+# The sets of each cache, of two ways each.
+LINE_SETS, BLOCK_SETS, NODE_SETS = 64, 16, 8
 WIDTHS = {0: 1, 1: 2, 2: 4, 4: 1, 5: 2}
 LOAD, STORE, BRANCH = 0x03, 0x23, 0x63
 
 
-def memory_size(levels):
-    return PAGE * 4**levels
+# --- the shape of a memory -------------------------------------------------------------------------------------------
+
+# How many children a node has, what a slot keeps of a child's tag, in bytes, and the most levels and those by default.
+Layout = collections.namedtuple("Layout", "arity slot most_levels levels")
+LAYOUTS = {1: Layout(4, 16, 8, 4), 2: Layout(8, 8, 5, 3)}
+
+
+class Shape:
+    """The layout and the levels of a memory, and what follows from them."""
+
+    def __init__(self, layout=1, levels=None):
+        self.layout = layout
+        self.arity, self.slot, self.most_levels, by_default = LAYOUTS[layout]
+        self.levels = by_default if levels is None else levels
+        if not 1 <= self.levels <= self.most_levels:
+            raise Refused(f"{self.levels} levels, layout {layout} has 1 to {self.most_levels}")
+
+    @property
+    def size(self):
+        return PAGE * self.width(0)
+
+    @property
+    def lines(self):
+        return self.size // LINE
+
+    @property
+    def place(self):
+        """How many bytes of a line's place may be other than zeros: its ciphertext, and what is kept of its tag."""
+        return LINE + self.slot
+
+    @property
+    def words(self):
+        """The words of a command that ask for it."""
+        return ["--levels", str(self.levels)] + (["--layout", str(self.layout)] if self.layout != 1 else [])
+
+    def width(self, level):
+        """How many nodes a level has. Those of level 0 are the counter blocks, one a page."""
+        return self.arity ** (self.levels - level)
+
+    def parent(self, index):
+        return index // self.arity
+
+    def __str__(self):
+        return f"{self.levels} levels" + (f" of layout {self.layout}" if self.layout != 1 else "")
+
+
+def shapes(layout):
+    """A memory of each number of levels."""
+    return [Shape(layout, levels) for levels in range(1, LAYOUTS[layout].most_levels + 1)]
+
+
+def size_text(size):
+    kib = size // 1024
+    return f"{kib} KiB" if kib < 1024 else f"{kib // 1024} MiB"
+
+
+class Refused(Exception):
+    """No such shape, or the file is no program for this memory."""
 
 
 # --- the accesses ----------------------------------------------------------------------------------------------------
@@ -55,10 +113,10 @@ class Cache:
 class Memory:
     """The protected memory's caches, and the accesses that it makes. `see(number, kind, level, index)` gets each one."""
 
-    def __init__(self, levels, see=None):
-        self.levels, self.see = levels, see
-        self.lines = Cache(64)
-        self.nodes = [Cache(8 if level else 16) for level in range(levels + 1)]
+    def __init__(self, shape, see=None):
+        self.shape, self.see = shape, see
+        self.lines = Cache(LINE_SETS)
+        self.nodes = [Cache(NODE_SETS if level else BLOCK_SETS) for level in range(shape.levels + 1)]
         self.counters = {}  # the line counter of each line that was written
         self.made = set()  # the level and index of each node that was written; another one is zeros, and is not read
         self.total = 0
@@ -95,15 +153,15 @@ class Memory:
 
     def want(self, level, index, dirty=False):
         """A node is on the chip: it hits, or it is fetched once its parent is there. Its victim is written back first."""
-        if level > self.levels or self.nodes[level].use(index, dirty):
+        if level > self.shape.levels or self.nodes[level].use(index, dirty):
             return
         victim, is_dirty = self.nodes[level].victim(index)
         if is_dirty:
-            self.want(level + 1, victim // 4)
+            self.want(level + 1, self.shape.parent(victim))
             self.access("write", level, victim)
             self.made.add((level, victim))
-            self.nodes[level + 1].use(victim // 4, True)
-        self.want(level + 1, index // 4)
+            self.nodes[level + 1].use(self.shape.parent(victim), True)
+        self.want(level + 1, self.shape.parent(index))
         if (level, index) in self.made:
             self.access("read", level, index)
         self.nodes[level].replace(victim, index)
@@ -126,18 +184,14 @@ def aes_blocks(count):
 Program = collections.namedtuple("Program", "entry segments")  # of each segment: address, bytes, length in memory
 
 
-class Refused(Exception):
-    """The file is no program for this memory."""
-
-
-def read_program(path, is_flat, levels):
+def read_program(path, is_flat, shape):
     with open(path, "rb") as file:
         data = file.read()
     program = Program(0, [(0, data, len(data))]) if is_flat else of_elf(data)
     for address, _, length in program.segments:
-        if address + length > memory_size(levels):
-            raise Refused(f"a segment ends at {address + length:#x}, behind a memory of {levels} levels")
-    if program.entry % 4 or program.entry + 4 > memory_size(levels):
+        if address + length > shape.size:
+            raise Refused(f"a segment ends at {address + length:#x}, behind a memory of {shape}")
+    if program.entry % 4 or program.entry + 4 > shape.size:
         raise Refused(f"the entry {program.entry:#x} is no place of an instruction")
     return program
 
@@ -171,10 +225,10 @@ def lines_of(address, length):
 class Machine:
     """RV32IM with the four services, over a flat memory. Each line that it uses is a touch of the protected memory."""
 
-    def __init__(self, program, levels, given=b"", see=None):
-        self.size = memory_size(levels)
+    def __init__(self, program, shape, given=b"", see=None):
+        self.size = shape.size
         self.bytes = bytearray(self.size)
-        self.memory = Memory(levels, see)
+        self.memory = Memory(shape, see)
         self.pc, self.registers, self.retired = program.entry, [0] * 32, 0
         self.registers[2] = self.size - 64
         self.given, self.output = given, bytearray()

@@ -15,9 +15,9 @@ def label(value):
 
 
 def grid(across, up, place_x, place_y):
-    for x in across:
+    for x, text in across.items():
         yield f'<line x1="{place_x(x):.1f}" y1="{TOP}" x2="{place_x(x):.1f}" y2="{HEIGHT - BOTTOM}" class="grid"/>'
-        yield f'<text x="{place_x(x):.1f}" y="{HEIGHT - BOTTOM + 18}" text-anchor="middle">{label(x)}</text>'
+        yield f'<text x="{place_x(x):.1f}" y="{HEIGHT - BOTTOM + 18}" text-anchor="middle">{text}</text>'
     for y in up:
         yield f'<line x1="{LEFT}" y1="{place_y(y):.1f}" x2="{WIDTH - RIGHT}" y2="{place_y(y):.1f}" class="grid"/>'
         yield f'<text x="{LEFT - 8}" y="{place_y(y) + 4:.1f}" text-anchor="end">{label(y)}</text>'
@@ -32,11 +32,11 @@ def name_heights(series, place_y):
     return heights
 
 
-def draw(title, x_axis, y_axis, series, dots=True):
-    """The text of the picture. Of each series: points x and y, by rising x."""
-    across = ticks(max(x for line in series.values() for x, _ in line))
+def draw(title, x_axis, y_axis, series, dots=True, across=None):
+    """The text of the picture. Of each series: points x and y, by rising x. And the texts below the x axis, or else numbers."""
+    across = across or {x: label(x) for x in ticks(max(x for line in series.values() for x, _ in line))}
     up = ticks(max(y for line in series.values() for _, y in line))
-    place_x = lambda x: LEFT + (WIDTH - LEFT - RIGHT) * x / across[-1]
+    place_x = lambda x: LEFT + (WIDTH - LEFT - RIGHT) * x / max(across)
     place_y = lambda y: HEIGHT - BOTTOM - (HEIGHT - BOTTOM - TOP) * y / up[-1]
     shapes = list(grid(across, up, place_x, place_y))
     shapes.append(f'<text x="{(LEFT + WIDTH - RIGHT) / 2}" y="{HEIGHT - 8}" text-anchor="middle">{x_axis}</text>')
@@ -53,3 +53,9 @@ def draw(title, x_axis, y_axis, series, dots=True):
     head = f'<svg xmlns="http://www.w3.org/2000/svg" viewBox="0 0 {WIDTH} {HEIGHT}" width="{WIDTH}" height="{HEIGHT}">'
     ground = '<rect width="100%" height="100%" fill="white"/>'
     return "\n".join([head, f"<title>{title}</title>", style, ground, *shapes, "</svg>"]) + "\n"
+
+
+def beside(left, right):
+    """The text of two pictures side by side."""
+    head = f'<svg xmlns="http://www.w3.org/2000/svg" viewBox="0 0 {2 * WIDTH} {HEIGHT}" width="{2 * WIDTH}" height="{HEIGHT}">'
+    return "\n".join([head, left.rstrip(), right.replace("<svg ", f'<svg x="{WIDTH}" ', 1).rstrip(), "</svg>"]) + "\n"

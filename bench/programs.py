@@ -66,9 +66,9 @@ def missing_lines():
     return LINES.format(behind=4, rounds=ROUNDS)
 
 
-def far_lines(levels):
+def far_lines(size):
     """192 lines, 48 of each of four pages a quarter of the memory apart, from page to page: counters and nodes miss too."""
-    return APART.format(quarter=1024 * 4**levels, size=4096 * 4**levels, rounds=ROUNDS)
+    return APART.format(quarter=size // 4, size=size, rounds=ROUNDS)
 
 
 # --- a loop whose lines are held -------------------------------------------------------------------------------------

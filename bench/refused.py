@@ -48,7 +48,7 @@ PRINT_TWICE = struct.pack(
 
 # A run, and what it prints: its output, and its note, each line a pattern.
 Row = collections.namedtuple("Row", "name image script status output note")
-REPORT = "report [0-9a-f]{316}"
+REPORT = "report [0-9a-f]{318}"
 ROWS = [
     Row("exit", EXIT_7, None, 0, b"", ["halted 7", "retired 3", "lies 0", REPORT]),
     Row("store", STORE_AND_PRINT, None, 0, b"A", ["halted 65", "retired 20", "lies 0", REPORT]),

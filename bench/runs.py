@@ -9,7 +9,7 @@ import tempfile
 
 TOP = os.path.dirname(os.path.dirname(os.path.abspath(__file__)))
 # What isn't the same in each run, and what `./chip` says of itself.
-LEFT_OUT = re.compile(r"^(report [0-9a-f]{316}|chip: .*)$")
+LEFT_OUT = re.compile(r"^(report [0-9a-f]{316,318}|chip: .*)$")
 
 Run = collections.namedtuple("Run", "seconds peak status output told")
 

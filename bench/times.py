@@ -77,18 +77,18 @@ def held(bench):
     print(f"held: run has {took['held, plain'] / took['held, run']:.2f} of plain's speed")
 
 
-def observed(path, levels, steps=10**9):
+def observed(path, shape, steps=10**9):
     """The model's machine after a program."""
-    machine = model.Machine(model.read_program(path, False, levels), levels)
+    machine = model.Machine(model.read_program(path, False, shape), shape)
     machine.run(steps)
     return machine
 
 
 def misses(bench):
-    cases, made = [], {}
-    for name, text in (("misses, lines", programs.missing_lines()), ("misses, apart", programs.far_lines(4))):
+    cases, made, shape = [], {}, model.Shape()
+    for name, text in (("misses, lines", programs.missing_lines()), ("misses, apart", programs.far_lines(shape.size))):
         path = bench.path(name, text)
-        machine = observed(path, 4)
+        machine = observed(path, shape)
         made[name] = machine.memory.total
         cases.append(Case(name, ["run", path], halted(machine.retired), machine.retired))
     took = bench.least(cases)
@@ -119,7 +119,7 @@ KEPT_STEPS = 400000, 800000
 def kept(bench):
     """By two budgets, whose peaks are both far above what Python has as it starts a process."""
     path = bench.path("thrash", programs.THRASH)
-    machine = model.Machine(model.read_program(path, False, 4), 4)
+    machine = model.Machine(model.read_program(path, False, model.Shape()), model.Shape())
     written = []
     for steps in KEPT_STEPS:
         machine.run(steps)

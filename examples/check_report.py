@@ -11,8 +11,10 @@ import re
 import struct
 import sys
 
-LENGTH = 158
-VERSION = 1
+# The versions of reports by their length in bytes. Of version 2 the layout stands behind the version.
+VERSIONS = {158: 1, 159: 2}
+LAYOUTS = (1, 2)
+TAG_LENGTH = 32
 LONGEST = 1048576
 
 
@@ -43,26 +45,27 @@ def read_digits(name, digits, count):
 
 
 class Report:
-    """The fields of a report's bytes."""
+    """The fields of a report's bytes. Version 1 has no layout."""
 
     def __init__(self, report):
-        self.measurement, self.input, self.output = report[1:33], report[33:65], report[65:97]
-        self.retired, self.ending, self.code = struct.unpack_from("<QBI", report, 97)
-        self.nonce = report[110:126]
+        self.layout, fields = (report[1], report[2:]) if report[0] == 2 else (None, report[1:])
+        self.measurement, self.input, self.output = fields[:32], fields[32:64], fields[64:96]
+        self.retired, self.ending, self.code = struct.unpack_from("<QBI", fields, 96)
+        self.nonce = fields[109:125]
 
 
 def verify(text, device):
     """The report of a text, or the first refusal that holds."""
     digits = text[:-1] if text.endswith(b"\n") else text
-    if len(digits) != 2 * LENGTH:
+    if len(digits) not in (2 * length for length in VERSIONS):
         raise Refusal("refused report 1 Length", 3)
     if not re.fullmatch(b"[0-9A-Fa-f]*", digits):
         raise Refusal("refused report 2 Digit", 3)
     report = bytes.fromhex(digits.decode())
-    if report[0] != VERSION:
+    if report[0] != VERSIONS[len(report)] or report[0] == 2 and report[1] not in LAYOUTS:
         raise Refusal("refused report 3 Version", 3)
-    key = hmac.digest(device, b"report", "sha256")
-    if not hmac.compare_digest(hmac.digest(key, report[:126], "sha256"), report[126:]):
+    key, signed, tag = hmac.digest(device, b"report", "sha256"), report[:-TAG_LENGTH], report[-TAG_LENGTH:]
+    if not hmac.compare_digest(hmac.digest(key, signed, "sha256"), tag):
         raise Refusal("report tag differs", 11)
     return Report(report)
 
@@ -93,6 +96,8 @@ def main():
     print("retired", report.retired)
     print("ending", report.ending, "code", report.code)
     print("nonce", report.nonce.hex())
+    if report.layout is not None:
+        print("layout", report.layout)
     return 0
 
 

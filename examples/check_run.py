@@ -1,12 +1,14 @@
 #!/usr/bin/env python3
 """Checks a report against what a run should have been.
 
-    check_run.py PROGRAM REPORT --output F --nonce HEX [--input F] [--flat] [--levels L] [--key HEX] [--code N]
+    check_run.py PROGRAM REPORT --output F --nonce HEX
+        [--input F] [--flat] [--layout N] [--levels L] [--key HEX] [--code N]
 
-It verifies the report under the device key, computes the program's measurement from its file, and compares: the
-measurement, the digests of the input and of the output, the nonce, and the ending, which must be that the program
-halted, with code N where --code is given. It prints `right`, status 0, or the first of them that differs, status 1.
-A report or a program that is refused, or isn't under this key, ends as with `chip verify` and `chip measure`.
+It verifies the report under the device key, computes the program's measurement from its file and the memory's size, and
+compares: the layout, where the report has one (version 2), the measurement, the digests of the input and of the output, the
+nonce, and the ending, which must be that the program halted, with code N where --code is given. It prints `right`, status 0,
+or the first of them that differs, status 1. A report or a program that is refused, or isn't under this key, ends as with
+`chip verify` and `chip measure`.
 
 It shares no code with the chip and wants Python's standard library alone. docs/FORMATS.md has the rules.
 """
@@ -22,6 +24,8 @@ from check_report import LONGEST, Refusal, add_key, end, read_digits, read_file,
 
 LONGEST_ELF = 8388608
 PAGE = 4096
+# Of each layout: how many children a node has, the most levels, and those by default.
+LAYOUTS = {1: (4, 8, 4), 2: (8, 5, 3)}
 ENDINGS = {0: "halted", 1: "trapped", 4: "out of steps", 5: "tampered", 6: "spent"}
 
 
@@ -79,8 +83,15 @@ def measurement(entry, segments, size):
     return hashlib.sha256(record).digest()
 
 
-def read_program(name, is_flat, levels):
-    size = PAGE * 4**levels
+def memory_size(layout, levels):
+    arity, most, by_default = LAYOUTS[layout]
+    levels = by_default if levels is None else levels
+    if levels > most:
+        raise Refusal("usage levels", 2)
+    return PAGE * arity**levels
+
+
+def read_program(name, is_flat, size):
     if is_flat:
         return measurement(*flat_program(read_file(name, LONGEST), size), size)
     return measurement(*elf_program(read_file(name, LONGEST_ELF), size), size)
@@ -98,16 +109,19 @@ def main():
     parser.add_argument("--output", metavar="F", required=True)
     parser.add_argument("--nonce", metavar="HEX", required=True, help="32 digits")
     parser.add_argument("--flat", action="store_true", help="the program's file is flat")
-    parser.add_argument("--levels", metavar="L", type=int, choices=range(1, 9), default=4, help="1 to 8")
+    parser.add_argument("--layout", metavar="N", type=int, choices=LAYOUTS, default=1, help="1 or 2, default 1")
+    parser.add_argument("--levels", metavar="L", type=int, choices=range(1, 9), help="default 4; under layout 2 3")
     parser.add_argument("--code", metavar="N", type=int, help="the exit code")
     add_key(parser)
     words = parser.parse_args()
+    size = memory_size(words.layout, words.levels)
     device = read_digits("key", words.key, 64)
     nonce = read_digits("nonce", words.nonce, 32)
-    program = read_program(words.program, words.flat, words.levels)
+    program = read_program(words.program, words.flat, size)
     report = verify(read_file(words.report, LONGEST), device)
     given = digest(words.input) if words.input is not None else hashlib.sha256().hexdigest()
     fields = [
+        ("layout", report.layout, words.layout if report.layout is not None else None),
         ("measurement", report.measurement.hex(), program.hex()),
         ("input", report.input.hex(), given),
         ("output", report.output.hex(), digest(words.output)),
