@@ -367,7 +367,7 @@ def generated():
 # --- commands --------------------------------------------------------------------------------------------------------
 
 # What isn't the same in each run, and what `./chip` says of itself.
-REPORT = re.compile(r"^(report [0-9a-f]{316}|chip: .*)\n", re.MULTILINE)
+REPORT = re.compile(r"^(report [0-9a-f]{316,318}|chip: .*)\n", re.MULTILINE)
 SECONDS = re.compile(r"\b\d+\.\d+(?= (?:seconds|s|µs)\b)")
 
 
@@ -429,7 +429,7 @@ def commands(page, program):
 
 BESIDE = "Beside the test"
 # In the test: a script, a run of one, and a field of that; and a program that is called otherwise there.
-SCRIPT = re.compile(r'^const (\w+): &\[u8\] =\s*b"([^"]*)";', re.MULTILINE)
+SCRIPT = re.compile(r'^(?:pub\(crate\) )?const (\w+): &\[u8\] =\s*b"([^"]*)";', re.MULTILINE)
 ATTACK = re.compile(r"^    Attack \{\n(.*?)^    \},", re.MULTILINE | re.DOTALL)
 ATTACK_FIELD = re.compile(r'^        (\w+): (?:b?"([^"]*)"|(\w+)),$', re.MULTILINE)
 PROGRAMS = {"COLD_EXIT_7": "cold_exit7"}
