@@ -15,11 +15,11 @@ use std::test::Fail;
 // What is told of a run of the program that exits with 7, with the line of its report.
 const TOLD: &[u8] = b"halted 7\nretired 3\nlies 0\n\
     report \
-    0116f50c65e5d32ef308c297c15f9cdae14c3f482dd9e03853348a497b7abe0a1a\
+    020116f50c65e5d32ef308c297c15f9cdae14c3f482dd9e03853348a497b7abe0a1a\
     e3b0c44298fc1c149afbf4c8996fb92427ae41e4649b934ca495991b7852b855\
     e3b0c44298fc1c149afbf4c8996fb92427ae41e4649b934ca495991b7852b855\
     0300000000000000000700000000000000000000000000000000000000\
-    a479401f853b37d1c441ce4553c6f3583bba91d772f3dcafbc7b506825d4dd77\n";
+    81e559c48eb173a699be68f86f6a16eaf31a8f353212150f6009039db0c6161c\n";
 
 // A command, the file `f`, how many files it reads, and what it prints and tells whole, with status 0.
 #[derive(Clone, Copy)]
