@@ -1,4 +1,5 @@
 pub mod Steps
+pub mod Accesses
 pub mod LieSteps
 pub mod HonestPlaces
 pub mod HonestSteps

@@ -1,7 +1,6 @@
 -- The calls of a bus that is an honest bus but for false answers.
 use Rattle.std.proofs.Common.{◌≡◌, ◌≢◌, ℕ, Bool, true, false, cond, not, nat_eq, ◌&&◌, List, [], ◌∷◌, ◌++◌, length, Option, refl, ap, ◌∙◌, sym, arith}
 use Rattle.std.specs.Option.{option_map}
-use Rattle.std.specs.Prelude.{Result, Ok, Err, OnErr}
 use Rattle.std.proofs.Math.Bool.{and_assoc}
 use Rattle.std.specs.Str.{bytes_eq}
 use Rattle.std.proofs.lemmas.Slice.Eq.{bytes_eq-Decides}
@@ -54,11 +53,6 @@ judged_refusal history history' lies same = ap (with_told lies.count (option_map
 pub judged_new : (history : BusHistory) (lies : Lies) (geometry : GeometryView) → history ≡ new_history geometry → lies ≡ no_lies →
     with_lies lies history ≡ new_history geometry
 judged_new history lies geometry is none = rw (is, none) refl
-
--- what holds, holds of an error
-pub if_err : {T E P : Type 0} (r : Result T E) → P → OnErr r P
-if_err (Ok x) p = tt
-if_err (Err e) p = p
 
 -- what the test of two lists says
 pub unlike : (first second : List ℕ) → true ≡ not (bytes_eq first second) → first ≢ second

@@ -1,4 +1,5 @@
 pub mod BusHistory
+pub mod Access
 pub mod Lies
 pub mod HonestBus
 pub mod FlipBus

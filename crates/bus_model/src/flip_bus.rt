@@ -1,9 +1,10 @@
 // A bus that is honest but for one answer.
-ghost use Rattle.std.specs.Prelude.{◌≡◌, ◌<◌, if◌then◌else◌, IsOk, IfOk, OnOk, OnErr};
+ghost use Rattle.std.specs.Prelude.{◌≡◌, refl, ◌<◌, if◌then◌else◌, IsOk, IfOk, OnOk, OnErr};
 ghost use Rattle.sec_base.specs.Evidence.{sealed_bytes};
 ghost use Rattle.sec_base.specs.Place.{IsPlace, stored_size};
 ghost use Rattle.sec_base.specs.Tag.{IsTag};
 ghost use Rattle.sec_base.specs.declared.place.Place.TheVariants.{Line, Node};
+ghost use Rattle.bus_model.specs.Access.{one_read, one_write, CameBy, came_on};
 ghost use Rattle.bus_model.specs.BusHistory.{new_history, after_read, after_write};
 ghost use Rattle.bus_model.specs.FlipBus.{flip_history, is_due, with_flip, next_answer};
 
@@ -82,11 +83,13 @@ impl FlipBus {
 impl Bus for FlipBus {
     ghost history = { flip_history };
 
-    ghost moved = { λ _ _. Unit {0} };
+    ghost moved = { λ old accesses new. CameBy (flip_history old) accesses (flip_history new) };
 
-    ghost unmoved = { λ _. tt };
+    ghost unmoved = { λ _. refl };
 
-    ghost moved_on = { λ _ _ _ _ _. tt };
+    ghost moved_on = { λ first second third. came_on (flip_history first) (flip_history second) (flip_history third) };
+
+    ghost told = { λ _ _ _ moved. moved };
 
     /// What was written at the line's place, but for the one read.
     fn read_data(&mut self, line: u32) -> Result<Sealed, NoMemory>
@@ -96,11 +99,9 @@ impl Bus for FlipBus {
         ensures answer { IfOk result (λ sealed. sealed_bytes sealed ≡ next_answer self.old.flip (flip_history self.old) (Line line)) }
         ensures flip { self.new.flip ≡ self.old.flip }
 
-        ensures ok { IfOk result (λ sealed. flip_history self.new ≡ after_read (Line line) (sealed_bytes sealed) (flip_history self.old)) }
+        ensures access { CameBy (flip_history self.old) (one_read (Line line) sealed_bytes result) (flip_history self.new) }
         ensures fits { IfOk result (λ sealed. IsTag (flip_history self.old).geometry.layout sealed.tag) }
-        ensures err { OnErr result (flip_history self.new ≡ flip_history self.old) }
         ensures geometry { (flip_history self.new).geometry ≡ (flip_history self.old).geometry }
-        ensures moved { Unit {0} }
     {
         let due = is_due(&self.flip, Place::Line(line), self.bus.line_reads(line));
         let written = self.bus.read_data(line)?;
@@ -115,10 +116,8 @@ impl Bus for FlipBus {
         requires fits { IsTag (flip_history self.old).geometry.layout sealed.now.tag }
 
         ensures flip { self.new.flip ≡ self.old.flip }
-        ensures ok { OnOk result (flip_history self.new ≡ after_write (Line line) (sealed_bytes sealed.now) (flip_history self.old)) }
-        ensures err { OnErr result (flip_history self.new ≡ flip_history self.old) }
+        ensures access { CameBy (flip_history self.old) (one_write (Line line) (sealed_bytes sealed.now) result) (flip_history self.new) }
         ensures geometry { (flip_history self.new).geometry ≡ (flip_history self.old).geometry }
-        ensures moved { Unit {0} }
     {
         self.bus.write_data(line, sealed)?;
         Ok(())
@@ -132,10 +131,8 @@ impl Bus for FlipBus {
         ensures answer { IfOk result (λ block. block ≡ next_answer self.old.flip (flip_history self.old) (Node level index)) }
         ensures flip { self.new.flip ≡ self.old.flip }
 
-        ensures ok { IfOk result (λ block. flip_history self.new ≡ after_read (Node level index) block (flip_history self.old)) }
-        ensures err { OnErr result (flip_history self.new ≡ flip_history self.old) }
+        ensures access { CameBy (flip_history self.old) (one_read (Node level index) (λ block. block) result) (flip_history self.new) }
         ensures geometry { (flip_history self.new).geometry ≡ (flip_history self.old).geometry }
-        ensures moved { Unit {0} }
     {
         let place = Place::Node { level, index };
         let due = is_due(&self.flip, place, self.bus.node_reads(level, index));
@@ -151,10 +148,8 @@ impl Bus for FlipBus {
         requires inside { IsPlace (flip_history self.old).geometry (Node level index) }
 
         ensures flip { self.new.flip ≡ self.old.flip }
-        ensures ok { OnOk result (flip_history self.new ≡ after_write (Node level index) block.now (flip_history self.old)) }
-        ensures err { OnErr result (flip_history self.new ≡ flip_history self.old) }
+        ensures access { CameBy (flip_history self.old) (one_write (Node level index) block.now result) (flip_history self.new) }
         ensures geometry { (flip_history self.new).geometry ≡ (flip_history self.old).geometry }
-        ensures moved { Unit {0} }
     {
         self.bus.write_node(level, index, block)?;
         Ok(())

@@ -1,10 +1,11 @@
 // A bus that answers what was written.
-ghost use Rattle.std.specs.Prelude.{◌≡◌, ◌<◌, IsOk, IfOk, OnOk, OnErr};
+ghost use Rattle.std.specs.Prelude.{◌≡◌, refl, ◌<◌, IsOk, IfOk, OnOk, OnErr};
 ghost use Rattle.std.specs.HashMap.{spare};
 ghost use Rattle.sec_base.specs.Evidence.{sealed_bytes};
 ghost use Rattle.sec_base.specs.Place.{IsPlace};
 ghost use Rattle.sec_base.specs.Tag.{IsTag};
 ghost use Rattle.sec_base.specs.declared.place.Place.TheVariants.{Line, Node};
+ghost use Rattle.bus_model.specs.Access.{one_read, one_write, CameBy, came_on};
 ghost use Rattle.bus_model.specs.BusHistory.{new_history, after_read, after_write};
 ghost use Rattle.bus_model.specs.HonestBus.{honest_history, empty_line, empty_node, IsSparse, Keeps};
 
@@ -106,11 +107,13 @@ impl HonestBus {
 impl Bus for HonestBus {
     ghost history = { honest_history };
 
-    ghost moved = { λ _ _. Unit {0} };
+    ghost moved = { λ old accesses new. CameBy (honest_history old) accesses (honest_history new) };
 
-    ghost unmoved = { λ _. tt };
+    ghost unmoved = { λ _. refl };
 
-    ghost moved_on = { λ _ _ _ _ _. tt };
+    ghost moved_on = { λ first second third. came_on (honest_history first) (honest_history second) (honest_history third) };
+
+    ghost told = { λ _ _ _ moved. moved };
 
     /// What was written at the line's place.
     fn read_data(&mut self, line: u32) -> Result<Sealed, NoMemory>
@@ -119,11 +122,9 @@ impl Bus for HonestBus {
         ensures is_ok { IsOk result }
         ensures answer { IfOk result (λ sealed. sealed_bytes sealed ≡ (honest_history self.old).written (Line line)) }
 
-        ensures ok { IfOk result (λ sealed. honest_history self.new ≡ after_read (Line line) (sealed_bytes sealed) (honest_history self.old)) }
+        ensures access { CameBy (honest_history self.old) (one_read (Line line) sealed_bytes result) (honest_history self.new) }
         ensures fits { IfOk result (λ sealed. IsTag (honest_history self.old).geometry.layout sealed.tag) }
-        ensures err { OnErr result (honest_history self.new ≡ honest_history self.old) }
         ensures geometry { (honest_history self.new).geometry ≡ (honest_history self.old).geometry }
-        ensures moved { Unit {0} }
     {
         self.accesses = self.accesses.saturating_add(1);
         let reads = &mut self.line_reads[line as usize];
@@ -138,10 +139,8 @@ impl Bus for HonestBus {
 
         ensures sure { 0 < self.old.room → IsOk result }
 
-        ensures ok { OnOk result (honest_history self.new ≡ after_write (Line line) (sealed_bytes sealed.now) (honest_history self.old)) }
-        ensures err { OnErr result (honest_history self.new ≡ honest_history self.old) }
+        ensures access { CameBy (honest_history self.old) (one_write (Line line) (sealed_bytes sealed.now) result) (honest_history self.new) }
         ensures geometry { (honest_history self.new).geometry ≡ (honest_history self.old).geometry }
-        ensures moved { Unit {0} }
     {
         keep_line(&mut self.lines, line, sealed)?;
         self.accesses = self.accesses.saturating_add(1);
@@ -155,10 +154,8 @@ impl Bus for HonestBus {
         ensures is_ok { IsOk result }
         ensures answer { IfOk result (λ block. block ≡ (honest_history self.old).written (Node level index)) }
 
-        ensures ok { IfOk result (λ block. honest_history self.new ≡ after_read (Node level index) block (honest_history self.old)) }
-        ensures err { OnErr result (honest_history self.new ≡ honest_history self.old) }
+        ensures access { CameBy (honest_history self.old) (one_read (Node level index) (λ block. block) result) (honest_history self.new) }
         ensures geometry { (honest_history self.new).geometry ≡ (honest_history self.old).geometry }
-        ensures moved { Unit {0} }
     {
         self.accesses = self.accesses.saturating_add(1);
         let number = self.geometry.node_number(level, index);
@@ -173,10 +170,8 @@ impl Bus for HonestBus {
 
         ensures sure { 0 < self.old.room → IsOk result }
 
-        ensures ok { OnOk result (honest_history self.new ≡ after_write (Node level index) block.now (honest_history self.old)) }
-        ensures err { OnErr result (honest_history self.new ≡ honest_history self.old) }
+        ensures access { CameBy (honest_history self.old) (one_write (Node level index) block.now result) (honest_history self.new) }
         ensures geometry { (honest_history self.new).geometry ≡ (honest_history self.old).geometry }
-        ensures moved { Unit {0} }
     {
         let number = self.geometry.node_number(level, index);
         keep_node(&mut self.nodes, number, block)?;
