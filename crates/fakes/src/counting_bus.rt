@@ -1,6 +1,7 @@
 // A bus that keeps what it is asked for, and may refuse it.
-ghost use Rattle.std.specs.Prelude.{◌≡◌, ◌<◌, IfOk};
+ghost use Rattle.std.specs.Prelude.{◌≡◌, refl, ◌<◌, IfOk};
 ghost use Rattle.sec_base.specs.Place.{stored_size};
+ghost use Rattle.bus_model.specs.Access.{CameBy, came_on};
 ghost use Rattle.bus_model.specs.BusHistory.{NothingWritten, new_history};
 ghost use Rattle.bus_model.specs.FlipBus.{flip_history};
 
@@ -119,11 +120,13 @@ impl CountingBus {
 impl Bus for CountingBus {
     ghost history = { flip_history };
 
-    ghost moved = { λ _ _. Unit {0} };
+    ghost moved = { λ old accesses new. CameBy (flip_history old) accesses (flip_history new) };
 
-    ghost unmoved = { λ _. tt };
+    ghost unmoved = { λ _. refl };
 
-    ghost moved_on = { λ _ _ _ _ _. tt };
+    ghost moved_on = { λ first second third. came_on (flip_history first) (flip_history second) (flip_history third) };
+
+    ghost told = { λ _ _ _ moved. moved };
 
     fn read_data(&mut self, line: u32) -> Result<Sealed, NoMemory> {
         self.asked.ask(Access::ReadLine(line))?;

@@ -1,7 +1,8 @@
 // A bus that answers what stood there before.
-ghost use Rattle.std.specs.Prelude.{◌≡◌, IfOk, IfSome};
+ghost use Rattle.std.specs.Prelude.{◌≡◌, refl, IfOk, IfSome};
 ghost use Rattle.sec_base.specs.Tag.{IsTag};
 ghost use Rattle.sec_base.specs.declared.geometry.Layout.{Layout};
+ghost use Rattle.bus_model.specs.Access.{CameBy, came_on};
 ghost use Rattle.bus_model.specs.BusHistory.{NothingWritten};
 ghost use Rattle.fakes.specs.ReplayBus.{KeepsTags, replay_history};
 
@@ -66,11 +67,13 @@ impl ReplayBus {
 impl Bus for ReplayBus {
     ghost history = { replay_history };
 
-    ghost moved = { λ _ _. Unit {0} };
+    ghost moved = { λ old accesses new. CameBy (replay_history old) accesses (replay_history new) };
 
-    ghost unmoved = { λ _. tt };
+    ghost unmoved = { λ _. refl };
 
-    ghost moved_on = { λ _ _ _ _ _. tt };
+    ghost moved_on = { λ first second third. came_on (replay_history first) (replay_history second) (replay_history third) };
+
+    ghost told = { λ _ _ _ moved. moved };
 
     fn read_data(&mut self, line: u32) -> Result<Sealed, NoMemory> {
         let sealed = self.bus.read_data(line)?;

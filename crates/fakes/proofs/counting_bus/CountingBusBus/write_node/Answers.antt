@@ -1,4 +1,4 @@
 use Rattle.fakes.proofs.counting_bus.CountingBusBus.write_node.Goals as goal
 
-pub returns-clause-err : goal.returns-clause-err
-returns-clause-err c = rw (← c.self.view_is) c.write_node.ensures.err
+pub returns-clause-access : goal.returns-clause-access
+returns-clause-access c = rw (← c.self.view_is) c.write_node.ensures.access

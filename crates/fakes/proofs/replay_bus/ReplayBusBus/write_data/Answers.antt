@@ -2,15 +2,17 @@ use Rattle.std.proofs.Common.{ap}
 use Rattle.sec_base.specs.Evidence.{sealed_bytes}
 use Rattle.sec_base.specs.declared.place.Place.TheVariants.{Line}
 use Rattle.bus_model.specs.HonestBus.{honest_history}
-use Rattle.bus_model.proofs.LieSteps.{if_err}
+use Rattle.bus_model.proofs.Accesses.{refused_write}
 use Rattle.fakes.specs.ReplayBus.{lied_out}
 use Rattle.fakes.proofs.ReplaySteps.{any_write}
 use Rattle.fakes.proofs.replay_bus.ReplayBusBus.write_data.Goals as goal
 
-pub returns-in_err-write_data-clause-err : goal.returns-in_err-write_data-clause-err
-returns-in_err-write_data-clause-err c = rw (← c.self.view_is) (if_err c.from_residual.result (ap lied_out c.in_err-write_data.ensures.err))
+pub returns-in_err-write_data-clause-access : goal.returns-in_err-write_data-clause-access
+returns-in_err-write_data-clause-access c =
+    rw (← c.self.view_is) (refused_write (Line c.args.line) (sealed_bytes c.args.sealed.now) _ _ c.from_residual.result c.from_residual.ensures.0
+    (ap lied_out c.in_err-write_data.ensures.access))
 
-pub returns-clause-ok : goal.returns-clause-ok
-returns-clause-ok c =
+pub returns-clause-access : goal.returns-clause-access
+returns-clause-access c =
     rw (← c.self.view_is) (any_write (Line c.args.line) (sealed_bytes c.args.sealed.now)
-    (honest_history c.self.inside.bus) (honest_history c.write_data.new.self) c.in_ok-write_data.ensures.ok)
+    (honest_history c.self.inside.bus) (honest_history c.write_data.new.self) c.in_ok-write_data.ensures.access)
