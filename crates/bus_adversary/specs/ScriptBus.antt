@@ -7,6 +7,7 @@ use Rattle.bus_adversary.specs.PlaceCounts.{PlaceCountsView, count_at, new_count
 use Rattle.bus_adversary.specs.StoredPlaces.{StoredPlacesView, bytes_at}
 use Rattle.bus_adversary.specs.declared.next_access.Access.TheVariants.{Read, Write}
 use Rattle.bus_adversary.specs.declared.next_access.NextAccess.{NextAccess}
+use Rattle.bus_model.specs.Access.{Access, CameBy, came_on}
 use Rattle.bus_model.specs.BusHistory.{BusHistory}
 use Rattle.bus_model.specs.HonestBus.{HonestBusView, honest_history}
 use Rattle.bus_model.specs.Lies.{with_lies}
@@ -14,7 +15,8 @@ use Rattle.bus_model.specs.declared.lies.Lies.{Lies}
 use Rattle.sec_base.specs.Count.{more_by}
 use Rattle.sec_base.specs.Place.{IsPlace, at_place}
 use Rattle.sec_base.specs.declared.place.Place.{Place}
-use Rattle.std.specs.Prelude.{IfSome, IsFalse, IsTrue, List, None, ℕ, ◌≡◌}
+use Rattle.std.proofs.Common.{◌∙◌}
+use Rattle.std.specs.Prelude.{IfSome, IsFalse, IsTrue, List, None, ℕ, ◌++◌, ◌≡◌}
 use Rattle.sec_base.specs.Geometry.{GeometryView}
 
 -- what was written and how often it was read, the false answers so far, what the adversary has, how often each place was
@@ -104,6 +106,11 @@ abbrev pub IsScriptBus : ScriptBusView → Type 0
 IsScriptBus bus =
     ChangedByScript bus.script (script_history bus) bus.adversary.places × (bus.writes.geometry ≡ bus.kept.geometry)
 
--- calls keep the script, and the geometry
-abbrev pub KeepsScript : ScriptBusView → ScriptBusView → Type 0
-KeepsScript old new = (new.script ≡ old.script) × ((script_history new).geometry ≡ (script_history old).geometry)
+-- such a bus became another one by these accesses, and kept its script
+abbrev pub KeepsScript : ScriptBusView → List Access → ScriptBusView → Type 0
+KeepsScript old accesses new = (new.script ≡ old.script) × CameBy (script_history old) accesses (script_history new)
+
+pub keeps_on : (first second third : ScriptBusView) (before after : List Access) →
+    KeepsScript first before second → KeepsScript second after third → KeepsScript first (before ++ after) third
+keeps_on first second third before after once then =
+    (then.0 ∙ once.0, came_on (script_history first) (script_history second) (script_history third) before after once.1 then.1)

@@ -2,13 +2,13 @@
 ghost use Rattle.adversary_script.specs.Script.{FitScript};
 ghost use Rattle.bus_adversary.specs.ChangedPlaces.{script_may_change};
 ghost use Rattle.bus_adversary.specs.Adversary.{any_due};
-ghost use Rattle.bus_adversary.specs.ScriptBus.{KeepsScript, StoredAsWritten, after_next_read, after_next_write, new_state, next_read, next_write, script_history, state_of, stored_at};
-ghost use Rattle.bus_model.specs.BusHistory.{after_read, after_write, new_history};
+ghost use Rattle.bus_adversary.specs.ScriptBus.{KeepsScript, StoredAsWritten, after_next_read, after_next_write, keeps_on, new_state, next_read, next_write, script_history, state_of, stored_at};
+ghost use Rattle.bus_model.specs.Access.{CameBy, one_read, one_write};
+ghost use Rattle.bus_model.specs.BusHistory.{new_history};
 ghost use Rattle.sec_base.specs.Evidence.{sealed_bytes};
 ghost use Rattle.sec_base.specs.Place.{IsPlace};
 ghost use Rattle.sec_base.specs.Tag.{IsTag};
 ghost use Rattle.sec_base.specs.declared.place.Place.TheVariants.{Line, Node};
-ghost use Rattle.std.proofs.Common.{◌∙◌};
 ghost use Rattle.std.specs.Prelude.{IfOk, IfSome, IsFalse, IsOk, IsTrue, OnErr, OnOk, [], refl, ◌≡◌};
 
 use crate::adversary::Adversary;
@@ -87,7 +87,9 @@ impl Bus for ScriptBus {
 
     ghost unmoved = { λ _. (refl, refl) };
 
-    ghost moved_on = { λ _ _ _ before after. (after.0 ∙ before.0, after.1 ∙ before.1) };
+    ghost moved_on = { keeps_on };
+
+    ghost told = { λ _ _ _ moved. moved.1 };
 
     /// What is stored at the line's place, once the due actions are done.
     fn read_data(&mut self, line: u32) -> Result<Sealed, NoMemory>
@@ -100,11 +102,10 @@ impl Bus for ScriptBus {
         ensures is_ok { IsFalse (any_due (next_read (Line line) (state_of self.old)) self.old.script)
             → IsOk result }
 
-        ensures ok { IfOk result (λ sealed. script_history self.new ≡ after_read (Line line) (sealed_bytes sealed) (script_history self.old)) }
+        ensures access { CameBy (script_history self.old) (one_read (Line line) sealed_bytes result) (script_history self.new) }
         ensures fits { IfOk result (λ sealed. IsTag (script_history self.old).geometry.layout sealed.tag) }
-        ensures err { OnErr result (script_history self.new ≡ script_history self.old) }
         ensures geometry { (script_history self.new).geometry ≡ (script_history self.old).geometry }
-        ensures moved { KeepsScript self.old self.new }
+        ensures script { self.new.script ≡ self.old.script }
     {
         let next = NextAccess {
             access: Access::Read(Place::Line(line)),
@@ -127,10 +128,9 @@ impl Bus for ScriptBus {
             ≡ after_next_write self.old.script (Line line) (sealed_bytes sealed.now) (state_of self.old)) }
         ensures counts { OnErr result (self.new.writes ≡ self.old.writes) }
 
-        ensures ok { OnOk result (script_history self.new ≡ after_write (Line line) (sealed_bytes sealed.now) (script_history self.old)) }
-        ensures err { OnErr result (script_history self.new ≡ script_history self.old) }
+        ensures access { CameBy (script_history self.old) (one_write (Line line) (sealed_bytes sealed.now) result) (script_history self.new) }
         ensures geometry { (script_history self.new).geometry ≡ (script_history self.old).geometry }
-        ensures moved { KeepsScript self.old self.new }
+        ensures script { self.new.script ≡ self.old.script }
     {
         let next = NextAccess {
             access: Access::Write(Place::Line(line)),
@@ -156,10 +156,9 @@ impl Bus for ScriptBus {
         ensures is_ok { IsFalse (any_due (next_read (Node level index) (state_of self.old)) self.old.script)
             → IsOk result }
 
-        ensures ok { IfOk result (λ block. script_history self.new ≡ after_read (Node level index) block (script_history self.old)) }
-        ensures err { OnErr result (script_history self.new ≡ script_history self.old) }
+        ensures access { CameBy (script_history self.old) (one_read (Node level index) (λ block. block) result) (script_history self.new) }
         ensures geometry { (script_history self.new).geometry ≡ (script_history self.old).geometry }
-        ensures moved { KeepsScript self.old self.new }
+        ensures script { self.new.script ≡ self.old.script }
     {
         let next = NextAccess {
             access: Access::Read(Place::Node { level, index }),
@@ -182,10 +181,9 @@ impl Bus for ScriptBus {
             ≡ after_next_write self.old.script (Node level index) block.now (state_of self.old)) }
         ensures counts { OnErr result (self.new.writes ≡ self.old.writes) }
 
-        ensures ok { OnOk result (script_history self.new ≡ after_write (Node level index) block.now (script_history self.old)) }
-        ensures err { OnErr result (script_history self.new ≡ script_history self.old) }
+        ensures access { CameBy (script_history self.old) (one_write (Node level index) block.now result) (script_history self.new) }
         ensures geometry { (script_history self.new).geometry ≡ (script_history self.old).geometry }
-        ensures moved { KeepsScript self.old self.new }
+        ensures script { self.new.script ≡ self.old.script }
     {
         let next = NextAccess {
             access: Access::Write(Place::Node { level, index }),

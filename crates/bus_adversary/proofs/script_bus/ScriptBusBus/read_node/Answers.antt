@@ -12,18 +12,18 @@ invariant_of-self-2 c = (
       c.self.invariant.0 (rw (← c.self.view_is) at c.requires.inside) c.act_due.ensures.geometry c.act_due.ensures.changes c.block-answer.ensures
       (judged_read (honest_history c.self.inside.bus) (honest_history c.read_node.new.self) c.self.inside.lies c.judge_block.new.self (Node c.args.level c.args.index)
       c.in_ok-written.written c.block-answer.result _
-      c.in_ok-written.ensures.ok c.in_ok-written.ensures.answer c.accesses-access.ensures c.judge_block.ensures),
+      c.in_ok-written.ensures.access c.in_ok-written.ensures.answer c.accesses-access.ensures c.judge_block.ensures),
   c.self.invariant.1 ∙ sym c.in_ok-written.ensures.geometry,
 )
 
 pub returns-clause-state : goal.returns-clause-state
 returns-clause-state c =
     rw (← c.self.view_is) (read_state c.self.inside.script (honest_history c.self.inside.bus) (honest_history c.read_node.new.self) c.self.inside.adversary c.act_due.new.self
-    c.self.inside.writes (Node c.args.level c.args.index) c.in_ok-written.written _ _ c.in_ok-written.ensures.ok
+    c.self.inside.writes (Node c.args.level c.args.index) c.in_ok-written.written _ _ c.in_ok-written.ensures.access
     c.in_ok-act_due.ensures.ok c.accesses.ensures c.node_reads.ensures)
 
-pub returns-clause-ok : goal.returns-clause-ok
-returns-clause-ok c =
+pub returns-clause-access : goal.returns-clause-access
+returns-clause-access c =
     rw (← c.self.view_is) (judged_read (honest_history c.self.inside.bus) (honest_history c.read_node.new.self) c.self.inside.lies c.judge_block.new.self (Node c.args.level c.args.index)
     c.in_ok-written.written c.block-answer.result _
-    c.in_ok-written.ensures.ok c.in_ok-written.ensures.answer c.accesses-access.ensures c.judge_block.ensures)
+    c.in_ok-written.ensures.access c.in_ok-written.ensures.answer c.accesses-access.ensures c.judge_block.ensures)
