@@ -13,6 +13,7 @@ use Rattle.sec_base.specs.Program.{IsImageOf, Program}
 use Rattle.chip_words.specs.declared.request.Tags.TheVariants.{Hmac, Xor}
 use Rattle.chip_words.specs.declared.request.Terms.{Terms}
 use Rattle.adversary_script.specs.declared.script.ScriptLine.{ScriptLine}
+use Rattle.bus_model.specs.Access.{Reaches}
 use Rattle.chip_device.specs.Buses.{IsBusOf, IsSameKind}
 use Rattle.chip_device.specs.declared.run_bus.RunBus.{RunBus}
 use Rattle.chip_device.specs.declared.run_bus.RunBus.TheVariants.{Honest, Script}
@@ -50,10 +51,10 @@ program_of (Ok program) P holds = (program, refl, holds)
 program_of (Err fault) P holds = absurd holds
 
 -- a bus that follows a script follows it still
-pub still_of : (script : Option (List ScriptLine)) (old new : RunBus) → IsBusOf script old → IsSameKind old new → IsBusOf script new
+pub still_of : (script : Option (List ScriptLine)) (old new : RunBus) → IsBusOf script old → Reaches IsSameKind old new → IsBusOf script new
 still_of None (Honest old) (Honest new) is same = tt
-still_of (Some script) (Script old) (Script new) is same = same.0 ∙ is
-still_of None (Honest old) (Script new) is same = absurd same
-still_of (Some script) (Script old) (Honest new) is same = absurd same
+still_of (Some script) (Script old) (Script new) is same = same.by.0 ∙ is
+still_of None (Honest old) (Script new) is same = absurd same.by
+still_of (Some script) (Script old) (Honest new) is same = absurd same.by
 still_of None (Script old) new is same = absurd is
 still_of (Some script) (Honest old) new is same = absurd is

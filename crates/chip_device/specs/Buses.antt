@@ -1,40 +1,51 @@
 -- The bus of a run: what it follows, and where its false answers come from.
-use Rattle.std.proofs.Common.{◌∙◌, refl}
-use Rattle.std.specs.Prelude.{◌≡◌, ℕ, List, [], Option, Some, None, IfSome, IsTrue}
+use Rattle.std.proofs.Common.{refl}
+use Rattle.std.specs.Prelude.{◌≡◌, ◌++◌, ℕ, List, [], Option, Some, None, IfSome, IsTrue}
 use Rattle.adversary_script.specs.declared.script.ScriptLine.{ScriptLine}
 use Rattle.bus_adversary.specs.ChangedPlaces.{script_may_change}
-use Rattle.bus_adversary.specs.ScriptBus.{KeepsScript, script_history}
+use Rattle.bus_adversary.specs.ScriptBus.{KeepsScript, keeps_on, script_history}
+use Rattle.bus_model.specs.Access.{Access, CameBy, came_on}
 use Rattle.bus_model.specs.BusHistory.{BusHistory}
 use Rattle.bus_model.specs.HonestBus.{honest_history}
 use Rattle.chip_device.specs.declared.run_bus.RunBus.{RunBus}
 use Rattle.chip_device.specs.declared.run_bus.RunBus.TheVariants.{Honest, Script}
 
--- calls leave the kind of a bus, and the script of one that follows a script
-abbrev pub IsSameKind : RunBus → RunBus → Type 0
-IsSameKind (Honest old) (Honest new) = Unit {0}
-IsSameKind (Script old) (Script new) = KeepsScript old new
-IsSameKind (Honest old) (Script new) = ⊥
-IsSameKind (Script old) (Honest new) = ⊥
-
--- a bus is of its own kind
-pub same_kind : (bus : RunBus) → IsSameKind bus bus
-same_kind (Honest bus) = tt
-same_kind (Script bus) = (refl, refl)
-
--- the kind stays the same over one step and then another
-pub same_kinds : (first second third : RunBus) →
-    IsSameKind first second → IsSameKind second third → IsSameKind first third
-same_kinds (Honest first) (Honest second) (Honest third) once then = tt
-same_kinds (Script first) (Script second) (Script third) once then = (then.0 ∙ once.0, then.1 ∙ once.1)
-same_kinds (Honest first) (Honest second) (Script third) once then = absurd then
-same_kinds (Script first) (Script second) (Honest third) once then = absurd then
-same_kinds (Honest first) (Script second) third once then = absurd once
-same_kinds (Script first) (Honest second) third once then = absurd once
-
 -- what it was asked and what it answered
 abbrev pub run_history : RunBus → BusHistory
 run_history (Honest bus) = honest_history bus
 run_history (Script bus) = script_history bus
+
+-- a bus became another one of its kind by these accesses, and one that follows a script kept it
+abbrev pub IsSameKind : RunBus → List Access → RunBus → Type 0
+IsSameKind (Honest old) accesses (Honest new) = CameBy (honest_history old) accesses (honest_history new)
+IsSameKind (Script old) accesses (Script new) = KeepsScript old accesses new
+IsSameKind (Honest old) accesses (Script new) = ⊥
+IsSameKind (Script old) accesses (Honest new) = ⊥
+
+-- a bus is of its own kind
+pub same_kind : (bus : RunBus) → IsSameKind bus [] bus
+same_kind (Honest bus) = refl
+same_kind (Script bus) = (refl, refl)
+
+-- the kind stays the same over accesses and then others
+pub same_kinds : (first second third : RunBus) (before after : List Access) →
+    IsSameKind first before second → IsSameKind second after third → IsSameKind first (before ++ after) third
+same_kinds (Honest first) (Honest second) (Honest third) before after once then =
+    came_on (honest_history first) (honest_history second) (honest_history third) before after once then
+same_kinds (Script first) (Script second) (Script third) before after once then =
+    keeps_on first second third before after once then
+same_kinds (Honest first) (Honest second) (Script third) before after once then = absurd then
+same_kinds (Script first) (Script second) (Honest third) before after once then = absurd then
+same_kinds (Honest first) (Script second) third before after once then = absurd once
+same_kinds (Script first) (Honest second) third before after once then = absurd once
+
+-- the accesses are all that its history tells
+pub kind_told : (old new : RunBus) (accesses : List Access) →
+    IsSameKind old accesses new → CameBy (run_history old) accesses (run_history new)
+kind_told (Honest old) (Honest new) accesses same = same
+kind_told (Script old) (Script new) accesses same = same.1
+kind_told (Honest old) (Script new) accesses same = absurd same
+kind_told (Script old) (Honest new) accesses same = absurd same
 
 -- the lines of the script that it follows: an honest bus follows none
 abbrev pub bus_script : RunBus → List ScriptLine

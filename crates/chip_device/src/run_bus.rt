@@ -2,7 +2,7 @@
 ghost use Rattle.std.specs.Prelude.{◌≡◌, IfOk, IfSome};
 ghost use Rattle.adversary_script.specs.Script.{FitScript};
 ghost use Rattle.bus_model.specs.BusHistory.{new_history};
-ghost use Rattle.chip_device.specs.Buses.{IsBusOf, IsSameKind, LiesByScript, run_history, same_kind, same_kinds};
+ghost use Rattle.chip_device.specs.Buses.{IsBusOf, IsSameKind, LiesByScript, kind_told, run_history, same_kind, same_kinds};
 
 use adversary_script::Script;
 use bus_adversary::ScriptBus;
@@ -57,6 +57,8 @@ impl Bus for RunBus {
     ghost unmoved = { same_kind };
 
     ghost moved_on = { same_kinds };
+
+    ghost told = { kind_told };
 
     fn read_data(&mut self, line: u32) -> Result<Sealed, NoMemory> {
         match self {

@@ -1,4 +1,7 @@
 use Rattle.chip_device.proofs.run_bus.RunBusBus.read_node.Goals as goal
 
-pub returns-in-Script-clause-err : goal.returns-in-Script-clause-err
-returns-in-Script-clause-err c = rw c.in-Script.is c.read_node-in-Script.ensures.err
+pub returns-in-Honest-clause-access : goal.returns-in-Honest-clause-access
+returns-in-Honest-clause-access c = rw c.in-Honest.is c.read_node.ensures.access
+
+pub returns-in-Script-clause-access : goal.returns-in-Script-clause-access
+returns-in-Script-clause-access c = rw c.in-Script.is (c.read_node-in-Script.ensures.script, c.read_node-in-Script.ensures.access)
