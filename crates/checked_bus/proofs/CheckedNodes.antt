@@ -1,5 +1,5 @@
 -- What a checked read of a node makes of a bus and a tag engine.
-use Rattle.std.proofs.Common.{◌≡◌, ◌≢◌, ℕ, inr, true, List, Option, Some, None, Result, Ok, Err, refl, ap, sym, ◌∙◌, subst, arith}
+use Rattle.std.proofs.Common.{◌≡◌, ◌≢◌, ℕ, inr, true, List, [], ◌∷◌, length, Option, Some, None, Result, Ok, Err, refl, ap, sym, ◌∙◌, subst, arith}
 use Rattle.std.specs.Option.{option_map, option_or}
 use Rattle.std.specs.Result.{result_err}
 use Rattle.std.proofs.lemmas.Option.{same_Some}
@@ -16,16 +16,18 @@ use Rattle.sec_base.specs.declared.place.Place.{Place}
 use Rattle.sec_base.specs.declared.place.Place.TheVariants.{Line as line_place, Node as node_place}
 use Rattle.sec_base.specs.declared.stop.MemStop.{MemStop}
 use Rattle.sec_base.specs.declared.stop.MemStop.TheVariants.{Tampered, Spent, NoMemory}
+use Rattle.bus_model.specs.Access.{Read}
 use Rattle.bus_model.specs.BusHistory.{BusHistory, after_read, after_answer}
 use Rattle.bus_model.specs.FirstLie.{AccountsForLies, HonestOrCaught, IsOfFirstLie}
 use Rattle.bus_model.proofs.Steps.{answered}
 use Rattle.tag_engine.specs.TagEngine.{TagEngineView, collision_of}
 use Rattle.tag_engine.proofs.Collisions.{Collides, collides, known}
 use Rattle.checked_bus.specs.Checks.{PassedNode, FailedNode, IsCheckedNode}
+use Rattle.checked_bus.specs.Makes.{IsShownIn, ReadsPlace}
 use Rattle.checked_bus.specs.Steps.{IsAccounted, IsCurrentNode, Moves, ReadsOnce, SameLines, SamePlace}
 use Rattle.checked_bus.proofs.FalseAnswers.{lie_comes, lie_rises, first_lie_stays}
-use Rattle.checked_bus.proofs.Evidences.{first_stays, or_none, by_evidence}
-use Rattle.checked_bus.proofs.PlaceReads.{answer_moves, answer_once, answer_others, answer_lines, answer_accounted, nothing_moves, nothing_once, nothing_others, nothing_lines}
+use Rattle.checked_bus.proofs.Evidences.{first_stays, or_none, by_evidence, none_found}
+use Rattle.checked_bus.proofs.PlaceReads.{answer_makes, answer_moves, answer_once, answer_others, answer_lines, answer_accounted, nothing_moves, nothing_once, nothing_others, nothing_lines, told_last}
 use Rattle.checked_bus.proofs.CheckedReads.{tampered, none_lied, still_honest, ended_accounted}
 
 pub no_line : (level index line : ℕ) → line_place line ≢ node_place level index
@@ -283,3 +285,44 @@ module _ {T : Type 0} (tag_of : Message → List ℕ) (level index : ℕ) (tag :
   node_honest used current result read was =
       by_evidence engine.evidence (λ none. node_accounted (current none) used result read was)
       (λ first before. after_evidence used first before result read was)
+
+  -- Evidence is of what was read
+  node_shown : {answer : List ℕ} (passed : PassedNode tag_of level index tag history history' engine engine' answer) (evidence : Evidence) → engine.evidence ≡ None →
+      engine'.evidence ≡ Some evidence → IsShownIn (length engine.made) (Read (node_place level index) passed.block ∷ []) evidence
+  node_shown {answer} passed evidence quiet is =
+      let found = collides tag_of engine.made level index passed.block tag evidence (sym (shown_here answer passed quiet) ∙ is) in
+      subst (λ (e : Evidence). IsShownIn (length engine.made) (Read (node_place level index) passed.block ∷ []) e) (sym found.is)
+      (record { before = []; after = []; is = refl; count = tt })
+
+  -- Its accesses
+
+  pub passed_makes : {answer : List ℕ} (passed : PassedNode tag_of level index tag history history' engine engine' answer) →
+      ReadsPlace tag_of (λ used. IsCurrentNode tag_of engine.made history.written level index tag) (node_place level index) history engine history' engine'
+      (Read (node_place level index) passed.block ∷ []) None
+  passed_makes {answer} passed = record {
+    once = record { bytes = passed.block; is = refl };
+    makes = answer_makes tag_of (λ used. IsCurrentNode tag_of engine.made history.written level index tag) history history' engine engine' None
+        (node_place level index) passed.block (option_or engine.evidence (collision_of tag_of engine.made level index passed.block tag true))
+        passed.answered passed.checked (record {
+          honest = λ used expects was. node_honest used expects (Ok answer) passed was;
+          found = λ used expects quiet. none_found engine'.evidence None (λ place is. cc) (collided_lied expects (Ok answer) passed quiet);
+          shown = λ evidence quiet is. node_shown passed evidence quiet is;
+          tampered = λ place is. absurd (cc);
+          first = (node_moves (Ok answer) passed).evidence;
+        });
+  }
+
+  pub failed_makes : (failed : FailedNode tag_of level index tag history history' engine engine') →
+      ReadsPlace tag_of (λ used. IsCurrentNode tag_of engine.made history.written level index tag) (node_place level index) history engine history' engine'
+      (Read (node_place level index) failed.block ∷ []) (Some (Tampered (node_place level index)))
+  failed_makes failed = record {
+    once = (record { bytes = failed.block; is = refl }, refl);
+    makes = answer_makes tag_of (λ used. IsCurrentNode tag_of engine.made history.written level index tag) history history' engine engine'
+        (Some (Tampered (node_place level index))) (node_place level index) failed.block engine.evidence failed.answered failed.unchanged (record {
+          honest = λ used expects was. node_honest used expects (Err (Tampered (node_place level index))) (refl, failed) was;
+          found = λ used expects quiet. inr (node_lied expects failed);
+          shown = λ evidence quiet is. let same : engine'.evidence ≡ engine.evidence = ap (λ (e : TagEngineView T). e.evidence) failed.unchanged in absurd (cc);
+          tampered = λ other is. told_last (node_place level index) other (Tampered (node_place level index)) failed.block refl is;
+          first = λ evidence is. ap (λ (e : TagEngineView T). e.evidence) failed.unchanged ∙ is;
+        });
+  }

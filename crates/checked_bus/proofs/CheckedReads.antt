@@ -1,5 +1,5 @@
 -- What a checked read makes of a bus and a tag engine.
-use Rattle.std.proofs.Common.{◌≡◌, ◌≢◌, ℕ, ◌<◌, inl, inr, true, List, ◌++◌, length, take, drop, Option, Some, None, Contains, Result, Ok, Err, refl, ap, sym, ◌∙◌, subst, arith, length-append}
+use Rattle.std.proofs.Common.{◌≡◌, ◌≢◌, ℕ, ◌<◌, inl, inr, true, List, [], ◌∷◌, ◌++◌, length, take, drop, Option, Some, None, Contains, Result, Ok, Err, refl, ap, sym, ◌∙◌, subst, arith, length-append}
 use Rattle.std.specs.Option.{option_or}
 use Rattle.std.specs.Result.{result_err}
 use Rattle.std.proofs.lemmas.List.{take_at, drop_at, take_all}
@@ -18,6 +18,7 @@ use Rattle.sec_base.specs.declared.place.Place.TheVariants.{Line as line_place}
 use Rattle.sec_base.specs.declared.sealed.Sealed.{Sealed}
 use Rattle.sec_base.specs.declared.stop.MemStop.{MemStop}
 use Rattle.sec_base.specs.declared.stop.MemStop.TheVariants.{Tampered, Spent, NoMemory}
+use Rattle.bus_model.specs.Access.{Read}
 use Rattle.bus_model.specs.BusHistory.{BusHistory, after_answer}
 use Rattle.bus_model.specs.FirstLie.{AccountsForLies, HonestOrCaught, IsOfFirstLie}
 use Rattle.bus_model.proofs.Steps.{answered}
@@ -25,11 +26,12 @@ use Rattle.tag_engine.specs.TagEngine.{TagEngineView, forgery_of}
 use Rattle.tag_engine.proofs.Forgeries.{known}
 use Rattle.checked_bus.specs.Checks.{after_line, Passed, Failed, IsCheckedRead}
 use Rattle.checked_bus.specs.SealedLine.{sealed_line}
+use Rattle.checked_bus.specs.Makes.{IsShownIn, ReadsPlace}
 use Rattle.checked_bus.specs.Steps.{IsAccounted, IsCurrent, Moves, ReadsOnce, SamePlace}
 use Rattle.checked_bus.proofs.LineMessages.{last_made, last_pair-some}
 use Rattle.checked_bus.proofs.FalseAnswers.{lie_comes, lie_rises, first_lie_stays}
-use Rattle.checked_bus.proofs.Evidences.{shown_is, first_stays, by_evidence}
-use Rattle.checked_bus.proofs.PlaceReads.{answer_moves, answer_once, answer_others, answer_accounted, nothing_moves, nothing_once, nothing_others}
+use Rattle.checked_bus.proofs.Evidences.{shown_is, first_stays, by_evidence, none_found}
+use Rattle.checked_bus.proofs.PlaceReads.{answer_makes, answer_moves, answer_once, answer_others, answer_accounted, nothing_makes, nothing_moves, nothing_once, nothing_others, told_last}
 
 -- The 80 bytes of a place
 
@@ -71,6 +73,36 @@ ended_accounted tag_of used made history stop evidence untampered was = record {
   };
   genuine = was.genuine;
 }
+
+-- while nothing stopped, whatever pads were used
+pub accounted_any : (tag_of : Message → List ℕ) (used more : List (ℕ × Counter)) (made : List Message) (history : BusHistory) (evidence : Option Evidence) →
+    IsAccounted tag_of used made history None evidence → IsAccounted tag_of more made history None evidence
+accounted_any tag_of used more made history evidence was = record {
+  account = record {
+    answers = λ quiet. still_honest tag_of more made history None (none_lied tag_of used made history (was.account.answers quiet)) (λ place taken. cc);
+    shown = was.account.shown;
+  };
+  genuine = was.genuine;
+}
+
+-- A read that there was no memory for is no access
+pub refused_makes : {T : Type 0} (tag_of : Message → List ℕ) (expected : List (ℕ × Counter) → Type 0) (place : Place) (history history' : BusHistory)
+    (engine engine' : TagEngineView T) (result : Result (List ℕ) MemStop) → result ≡ Err NoMemory → history' ≡ history → engine' ≡ engine →
+    ReadsPlace tag_of expected place history engine history' engine' [] (result_err result)
+refused_makes {T} tag_of expected place history history' engine engine' result is same unchanged =
+    let evidence_is : engine'.evidence ≡ engine.evidence = ap (λ (e : TagEngineView T). e.evidence) unchanged in
+    subst (λ (r : Result (List ℕ) MemStop). ReadsPlace tag_of expected place history engine history' engine' [] (result_err r)) (sym is) (record {
+      once = refl;
+      makes = nothing_makes tag_of expected history history' engine engine' (Some NoMemory) same unchanged (record {
+        honest = λ used expects was. subst (λ (t : BusHistory). IsAccounted tag_of used engine'.made t (Some NoMemory) engine'.evidence) (sym same)
+            (subst (λ (e : TagEngineView T). IsAccounted tag_of used e.made history (Some NoMemory) e.evidence) (sym unchanged)
+            (ended_accounted tag_of used engine.made history NoMemory engine.evidence (λ place is. cc) was));
+        found = λ used expects quiet. inl (evidence_is ∙ quiet, λ place is. cc);
+        shown = λ evidence quiet is. absurd (cc);
+        tampered = λ place is. absurd (cc);
+        first = λ evidence is. evidence_is ∙ is;
+      });
+    })
 
 module _ {T : Type 0} (tag_of : Message → List ℕ) (line : ℕ) (counter : Counter) (history history' : BusHistory)
     (engine engine' : TagEngineView T) where
@@ -326,3 +358,47 @@ module _ {T : Type 0} (tag_of : Message → List ℕ) (line : ℕ) (counter : Co
   read_honest tag_long used current result read was =
       by_evidence engine.evidence (λ none. read_accounted tag_long used (current none) result read was)
       (λ first before. after_evidence used first before result read was)
+
+  -- Evidence is of what was read
+  read_shown : {cipher : List ℕ} (passed : Passed tag_of line counter history history' engine engine' cipher) (evidence : Evidence) → engine.evidence ≡ None →
+      engine'.evidence ≡ Some evidence → IsShownIn (length engine.made) (Read (line_place line) (sealed_bytes passed.sealed) ∷ []) evidence
+  read_shown passed evidence quiet is =
+      let shown : forgery_of engine.made line counter passed.sealed true ≡ Some evidence =
+      sym (ap (λ (o : Option Evidence). option_or o (forgery_of engine.made line counter passed.sealed true)) quiet)
+      ∙ sym (ap (λ (e : TagEngineView T). e.evidence) passed.checked) ∙ is in
+      subst (λ (e : Evidence). IsShownIn (length engine.made) (Read (line_place line) (sealed_bytes passed.sealed) ∷ []) e)
+      (sym (shown_is engine.made line counter passed.sealed evidence shown).0) (record { before = []; after = []; is = refl; count = omega arith })
+
+  -- Its accesses
+
+  pub passed_makes : ((cipher : List ℕ) → length (tag_of (Line line counter cipher)) ≡ 16) → {cipher : List ℕ}
+      (passed : Passed tag_of line counter history history' engine engine' cipher) →
+      ReadsPlace tag_of (λ used. IsCurrent tag_of used engine.made history.written line counter) (line_place line) history engine history' engine'
+      (Read (line_place line) (sealed_bytes passed.sealed) ∷ []) None
+  passed_makes tag_long {cipher} passed = record {
+    once = record { bytes = sealed_bytes passed.sealed; is = refl };
+    makes = answer_makes tag_of (λ used. IsCurrent tag_of used engine.made history.written line counter) history history' engine engine' None
+        (line_place line) (sealed_bytes passed.sealed) (option_or engine.evidence (forgery_of engine.made line counter passed.sealed true))
+        passed.answered passed.checked (record {
+          honest = λ used expects was. read_honest tag_long used expects (Ok cipher) passed was;
+          found = λ used expects quiet. none_found engine'.evidence None (λ place is. cc) (shown_lied tag_long used expects (Ok cipher) passed quiet);
+          shown = λ evidence quiet is. read_shown passed evidence quiet is;
+          tampered = λ place is. absurd (cc);
+          first = (read_moves (Ok cipher) passed).evidence;
+        });
+  }
+
+  pub failed_makes : ((cipher : List ℕ) → length (tag_of (Line line counter cipher)) ≡ 16) → (failed : Failed tag_of line counter history history' engine engine') →
+      ReadsPlace tag_of (λ used. IsCurrent tag_of used engine.made history.written line counter) (line_place line) history engine history' engine'
+      (Read (line_place line) (sealed_bytes failed.sealed) ∷ []) (Some (Tampered (line_place line)))
+  failed_makes tag_long failed = record {
+    once = (record { bytes = sealed_bytes failed.sealed; is = refl }, refl);
+    makes = answer_makes tag_of (λ used. IsCurrent tag_of used engine.made history.written line counter) history history' engine engine'
+        (Some (Tampered (line_place line))) (line_place line) (sealed_bytes failed.sealed) engine.evidence failed.answered failed.unchanged (record {
+          honest = λ used expects was. read_honest tag_long used expects (Err (Tampered (line_place line))) (refl, failed) was;
+          found = λ used expects quiet. inr (tampered_lied tag_long used expects failed);
+          shown = λ evidence quiet is. let same : engine'.evidence ≡ engine.evidence = ap (λ (e : TagEngineView T). e.evidence) failed.unchanged in absurd (cc);
+          tampered = λ other is. told_last (line_place line) other (Tampered (line_place line)) (sealed_bytes failed.sealed) refl is;
+          first = λ evidence is. ap (λ (e : TagEngineView T). e.evidence) failed.unchanged ∙ is;
+        });
+  }

@@ -7,6 +7,9 @@ use Rattle.sec_base.specs.declared.message.Message.{Message}
 use Rattle.sec_base.specs.declared.message.Message.TheVariants.{Line}
 use Rattle.sec_base.specs.declared.evidence.Evidence.{Evidence}
 use Rattle.sec_base.specs.declared.evidence.Evidence.TheVariants.{Forgery}
+use Rattle.sec_base.specs.declared.place.Place.{Place}
+use Rattle.sec_base.specs.declared.stop.MemStop.{MemStop}
+use Rattle.sec_base.specs.declared.stop.MemStop.TheVariants.{Tampered}
 use Rattle.sec_base.specs.Message.{has_message}
 use Rattle.sec_base.proofs.SameMessages.{has_message-Decides}
 use Rattle.tag_engine.specs.TagEngine.{forgery_of}
@@ -50,3 +53,9 @@ by_evidence (Some evidence) none some = some evidence refl
 pub none_or : {P : Type 0} (o : Option Evidence) → (o ≢ None → P) → (o ≡ None) ⊎ P
 none_or None some = inl refl
 none_or (Some evidence) some = inr (some (λ none. absurd (cc)))
+
+-- no evidence and no such stop, or what follows from evidence
+pub none_found : {P : Type 0} (o : Option Evidence) (stop : Option MemStop) → ((place : Place) → stop ≢ Some (Tampered place)) → (o ≢ None → P) →
+    ((o ≡ None) × ((place : Place) → stop ≢ Some (Tampered place))) ⊎ P
+none_found None stop untampered some = inl (refl, untampered)
+none_found (Some evidence) stop untampered some = inr (some (λ none. absurd (cc)))

@@ -1,5 +1,5 @@
 -- What an answer for a place makes of a bus, and what stays where there was none.
-use Rattle.std.proofs.Common.{◌≡◌, ◌≢◌, ℕ, inl, inr, Bool, true, false, cond, List, [], Option, None, Some, refl, ap, sym, ◌∙◌, subst, arith}
+use Rattle.std.proofs.Common.{◌≡◌, ◌≢◌, ℕ, inl, inr, Bool, true, false, cond, List, [], ◌∷◌, Option, None, Some, refl, ap, sym, ◌∙◌, subst, arith}
 use Rattle.std.proofs.lemmas.List.{append-nil}
 use Rattle.sec_base.specs.Count.{more_by, Rose, RoseBy}
 use Rattle.sec_base.specs.LastMessage.{data_pairs}
@@ -10,12 +10,14 @@ use Rattle.sec_base.specs.declared.message.Message.{Message}
 use Rattle.sec_base.specs.declared.place.Place.{Place}
 use Rattle.sec_base.specs.declared.place.Place.TheVariants.{Line as line_place}
 use Rattle.sec_base.specs.declared.stop.MemStop.{MemStop}
-use Rattle.sec_base.specs.declared.stop.MemStop.TheVariants.{NoMemory}
+use Rattle.sec_base.specs.declared.stop.MemStop.TheVariants.{Tampered, NoMemory}
 use Rattle.sec_base.proofs.SamePlaces.{place_eq-Decides, at_place-there}
+use Rattle.bus_model.specs.Access.{Read, EndsWithRead}
 use Rattle.bus_model.specs.BusHistory.{BusHistory, after_read}
 use Rattle.bus_model.proofs.Steps.{true_or_false, read_geometry, read_written, read_reads, read_accesses, read_rose}
 use Rattle.tag_engine.specs.TagEngine.{TagEngineView}
 use Rattle.checked_bus.specs.Accesses.{AreCounted}
+use Rattle.checked_bus.specs.Makes.{IsChecked, Makes}
 use Rattle.checked_bus.specs.Steps.{IsAccounted, Moves, ReadsOnce, SameLines, SamePlace}
 use Rattle.checked_bus.proofs.FalseAnswers.{first_lie_stays}
 use Rattle.checked_bus.proofs.Counting.{read_counted}
@@ -148,3 +150,49 @@ pub nothing_others : {T : Type 0} (other : Place) (history history' : BusHistory
 nothing_others {T} other history history' engine engine' same unchanged =
     subst (λ (t : BusHistory). SamePlace other history engine.made t engine'.made) (sym same)
     (subst (λ (e : TagEngineView T). SamePlace other history engine.made history e.made) (sym unchanged) (same_place_not other history engine.made))
+
+-- tampering was told of the last access
+pub told_last : (place other : Place) (stop : MemStop) (bytes : List ℕ) → stop ≡ Tampered place → Some stop ≡ Some (Tampered other) →
+    EndsWithRead other (Read place bytes ∷ [])
+told_last place other stop bytes here is = record {
+  before = [];
+  bytes = bytes;
+  is = let same : place ≡ other = cc in ap (λ (p : Place). Read p bytes ∷ []) same;
+}
+
+-- The accesses of a read
+
+module _ {T : Type 0} (tag_of : Message → List ℕ) (expected : List (ℕ × Counter) → Type 0) (history history' : BusHistory)
+    (engine engine' : TagEngineView T) (stop : Option MemStop) where
+  pub answer_makes : (place : Place) (bytes : List ℕ) (shown : Option Evidence) → history' ≡ after_read place bytes history →
+      engine' ≡ record engine { evidence = shown } → IsChecked tag_of expected history engine history' engine' (Read place bytes ∷ []) stop →
+      Makes tag_of expected history engine history' engine' (Read place bytes ∷ []) stop
+  answer_makes place bytes shown answered engine_is checked = record {
+    came = answered;
+    bus_geometry = ap (λ (t : BusHistory). t.geometry) answered ∙ read_geometry place bytes history;
+    written = [];
+    unwritten = [];
+    made = ap (λ (e : TagEngineView T). e.made) engine_is ∙ sym (append-nil engine.made);
+    writes = refl;
+    few = omega arith;
+    geometry = ap (λ (e : TagEngineView T). e.geometry) engine_is;
+    tagger = ap (λ (e : TagEngineView T). e.tagger) engine_is;
+    room = let is : engine'.room ≡ engine.room = ap (λ (e : TagEngineView T). e.room) engine_is in omega (arith, is);
+    checked = checked;
+  }
+
+  pub nothing_makes : history' ≡ history → engine' ≡ engine → IsChecked tag_of expected history engine history' engine' [] stop →
+      Makes tag_of expected history engine history' engine' [] stop
+  nothing_makes same engine_is checked = record {
+    came = same;
+    bus_geometry = ap (λ (t : BusHistory). t.geometry) same;
+    written = [];
+    unwritten = [];
+    made = ap (λ (e : TagEngineView T). e.made) engine_is ∙ sym (append-nil engine.made);
+    writes = refl;
+    few = omega arith;
+    geometry = ap (λ (e : TagEngineView T). e.geometry) engine_is;
+    tagger = ap (λ (e : TagEngineView T). e.tagger) engine_is;
+    room = let is : engine'.room ≡ engine.room = ap (λ (e : TagEngineView T). e.room) engine_is in omega (arith, is);
+    checked = checked;
+  }

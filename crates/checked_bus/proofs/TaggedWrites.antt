@@ -1,5 +1,6 @@
 -- What a tagged write makes of a bus and a tag engine.
-use Rattle.std.proofs.Common.{◌≡◌, ◌≢◌, ◌⊎◌, ℕ, inl, inr, List, [], ◌∷◌, ◌++◌, None, OnOk, OnErr, Result, Ok, Err, refl, ap, sym, ◌∙◌, subst, arith}
+use Rattle.std.proofs.Common.{◌≡◌, ◌≢◌, ℕ, true, false, inl, List, [], ◌∷◌, ◌++◌, Option, None, Some, OnOk, OnErr, Result, Ok, Err, refl, ap, sym, ◌∙◌, subst, arith}
+use Rattle.std.specs.Prelude.{IsErr}
 use Rattle.sec_base.specs.Count.{more_by, RoseBy}
 use Rattle.sec_base.specs.Evidence.{IsEvidence}
 use Rattle.sec_base.specs.LastMessage.{data_pairs, data_part, node_part}
@@ -10,10 +11,16 @@ use Rattle.sec_base.specs.declared.place.Place.{Place}
 use Rattle.sec_base.specs.declared.place.Place.TheVariants.{Line as line_place, Node as node_place}
 use Rattle.sec_base.proofs.LastMessages.{last_of_other}
 use Rattle.sec_base.proofs.SamePlaces.{at_place-there}
+use Rattle.sec_base.specs.declared.stop.NoMemory.{NoMemory as refusal}
+use Rattle.sec_base.specs.declared.stop.MemStop.{MemStop}
+use Rattle.sec_base.specs.declared.stop.MemStop.TheVariants.{Tampered, NoMemory}
+use Rattle.bus_model.specs.Access.{Access, Write, CameBy, after_all, one_write, writes_in}
+use Rattle.bus_model.proofs.Accesses.{all_geometry}
 use Rattle.bus_model.specs.BusHistory.{BusHistory, after_write}
 use Rattle.tag_engine.specs.TagEngine.{TagEngineView, after_make}
 use Rattle.tag_engine.proofs.Forgeries.{still_genuine}
 use Rattle.tag_engine.proofs.LastPlaces.{node_part-other}
+use Rattle.checked_bus.specs.Makes.{access_of, if_done, IsChecked, WritesMessage}
 use Rattle.checked_bus.specs.Steps.{IsAccounted, Moves, SameLast, SameLines, SamePlace, WritesOnce}
 use Rattle.checked_bus.proofs.LineMessages.{last_data-other}
 use Rattle.checked_bus.proofs.FalseAnswers.{made_more}
@@ -22,9 +29,21 @@ use Rattle.checked_bus.proofs.Counting.{write_counted}
 use Rattle.checked_bus.proofs.CheckedReads.{none_lied, still_honest}
 
 -- a write that was refused or not
-pub done_or_not : {A E P Q : Type 0} (result : Result A E) → OnOk result P → OnErr result Q → P ⊎ Q
-done_or_not (Ok value) done refused = inl done
-done_or_not (Err error) done refused = inr refused
+pub if_wrote : (place : Place) (bytes : List ℕ) (history history' : BusHistory) (result : Result (Unit {0}) refusal) →
+    CameBy history (one_write place bytes result) history' →
+    OnOk result (history' ≡ after_write place bytes history) × OnErr result (history' ≡ history)
+if_wrote place bytes history history' (Ok done) wrote = (wrote, tt)
+if_wrote place bytes history history' (Err refused) same = (tt, same)
+
+-- it is the one write of a message
+pub one_done : (place : Place) (bytes bytes' : List ℕ) (result : Result (Unit {0}) refusal) → bytes ≡ bytes' →
+    one_write place bytes result ≡ if_done result (Write place bytes')
+one_done place bytes bytes' (Ok done) same = ap (λ (xs : List ℕ). Write place xs ∷ []) same
+one_done place bytes bytes' (Err refused) same = refl
+
+pub none_done : {A E : Type 0} (result : Result A E) (access : Access) → IsErr result → [] ≡ if_done result access
+none_done (Ok value) access wrong = let no : false ≡ true = wrong in absurd (cc)
+none_done (Err error) access refused = refl
 
 -- what follows where it was done
 pub where_done : {A E P Q : Type 0} (result : Result A E) → (P → Q) → OnOk result P → OnOk result Q
@@ -53,10 +72,10 @@ pub record Written (place : Place) (history history' : BusHistory) : Type 0 wher
   pub accesses : RoseBy 0 history.accesses history'.accesses
   pub others : (other : Place) → other ≢ place → history'.written other ≡ history.written other
 
-pub wrote_or_not : (place : Place) (bytes : List ℕ) (history history' : BusHistory) →
-    (history' ≡ after_write place bytes history) ⊎ (history' ≡ history) → Written place history history'
+pub wrote_or_not : (place : Place) (bytes : List ℕ) (history history' : BusHistory) (result : Result (Unit {0}) refusal) →
+    CameBy history (one_write place bytes result) history' → Written place history history'
 unfolding after_write
-wrote_or_not place bytes history history' (inr same) = record {
+wrote_or_not place bytes history history' (Err refused) same = record {
   geometry = ap (λ (t : BusHistory). t.geometry) same;
   reads = ap (λ (t : BusHistory). t.reads) same;
   lies = ap (λ (t : BusHistory). t.lies) same;
@@ -64,7 +83,7 @@ wrote_or_not place bytes history history' (inr same) = record {
   accesses = let is : history'.accesses ≡ history.accesses = ap (λ (t : BusHistory). t.accesses) same in omega (arith, is);
   others = λ other apart. ap (λ (t : BusHistory). t.written other) same;
 }
-wrote_or_not place bytes history history' (inl wrote) = record {
+wrote_or_not place bytes history history' (Ok done) wrote = record {
   geometry = ap (λ (t : BusHistory). t.geometry) wrote;
   reads = ap (λ (t : BusHistory). t.reads) wrote;
   lies = ap (λ (t : BusHistory). t.lies) wrote;
@@ -136,3 +155,69 @@ module _ {T : Type 0} (place : Place) (message : Message) (history history' : Bu
 pub no_line_made : (level index : ℕ) (block : List ℕ) → data_pairs (Node level index block ∷ []) ≡ []
 unfolding data_pairs
 no_line_made level index block = refl
+
+-- a write is no answer
+message_lies : (tag_of : Message → List ℕ) (message : Message) (history : BusHistory) →
+    ((after_all (access_of tag_of message ∷ []) history).lies ≡ history.lies) × ((after_all (access_of tag_of message ∷ []) history).lie ≡ history.lie)
+unfolding after_write
+message_lies tag_of (Line line counter cipher) history = (refl, refl)
+message_lies tag_of (Node level index block) history = (refl, refl)
+
+message_writes : (tag_of : Message → List ℕ) (message : Message) → writes_in (access_of tag_of message ∷ []) ≡ access_of tag_of message ∷ []
+message_writes tag_of (Line line counter cipher) = refl
+message_writes tag_of (Node level index block) = refl
+
+-- The accesses of a write
+
+module _ {T : Type 0} (tag_of : Message → List ℕ) (message : Message) (history history' : BusHistory)
+    (engine engine' : TagEngineView T) (made : engine' ≡ after_make message engine) where
+  write_checked : (accesses : List Access) (stop : Option MemStop) → ((place : Place) → stop ≢ Some (Tampered place)) →
+      history'.lies ≡ history.lies → history'.lie ≡ history.lie →
+      IsChecked tag_of (λ used. Unit {0}) history engine history' engine' accesses stop
+  write_checked accesses stop untampered lies lie = record {
+    honest = λ used expects was.
+        subst (λ (e : TagEngineView T). IsAccounted tag_of used e.made history' stop e.evidence) (sym made) (record {
+          account = record {
+            answers = λ quiet. still_honest tag_of used (engine.made ++ message ∷ []) history' stop
+                (lies ∙ none_lied tag_of used engine.made history (was.account.answers quiet)) untampered;
+            shown = λ evidence is. made_more tag_of history history' engine.made (message ∷ []) evidence lies lie
+                (some_holds engine.evidence evidence (IsEvidence tag_of engine.made) is was.genuine) (was.account.shown evidence is);
+          };
+          genuine = still_genuine tag_of engine.made (message ∷ []) engine.evidence was.genuine;
+        });
+    found = λ used expects quiet. inl (ap (λ (e : TagEngineView T). e.evidence) made ∙ quiet, untampered);
+    shown = λ evidence quiet is. let same : engine'.evidence ≡ engine.evidence = ap (λ (e : TagEngineView T). e.evidence) made in absurd (cc);
+    tampered = λ place is. absurd (untampered place is);
+    first = λ evidence is. ap (λ (e : TagEngineView T). e.evidence) made ∙ is;
+  }
+
+  pub write_makes : {A E : Type 0} (result : Result A E) → CameBy history (if_done result (access_of tag_of message)) history' →
+      WritesMessage tag_of message history engine history' engine' result
+  write_makes (Ok value) came = record {
+    came = came;
+    bus_geometry = ap (λ (t : BusHistory). t.geometry) came ∙ all_geometry (access_of tag_of message ∷ []) history;
+    written = message ∷ [];
+    unwritten = [];
+    made = ap (λ (e : TagEngineView T). e.made) made;
+    writes = message_writes tag_of message;
+    few = omega arith;
+    geometry = ap (λ (e : TagEngineView T). e.geometry) made;
+    tagger = ap (λ (e : TagEngineView T). e.tagger) made;
+    room = ap (λ (e : TagEngineView T). e.room) made;
+    checked = write_checked (access_of tag_of message ∷ []) None (λ place is. cc)
+        (ap (λ (t : BusHistory). t.lies) came ∙ (message_lies tag_of message history).0)
+        (ap (λ (t : BusHistory). t.lie) came ∙ (message_lies tag_of message history).1);
+  }
+  write_makes (Err error) came = record {
+    came = came;
+    bus_geometry = ap (λ (t : BusHistory). t.geometry) came;
+    written = [];
+    unwritten = message ∷ [];
+    made = ap (λ (e : TagEngineView T). e.made) made;
+    writes = refl;
+    few = omega arith;
+    geometry = ap (λ (e : TagEngineView T). e.geometry) made;
+    tagger = ap (λ (e : TagEngineView T). e.tagger) made;
+    room = ap (λ (e : TagEngineView T). e.room) made;
+    checked = write_checked [] (Some NoMemory) (λ place is. cc) (ap (λ (t : BusHistory). t.lies) came) (ap (λ (t : BusHistory). t.lie) came);
+  }

@@ -11,9 +11,11 @@ ghost use Rattle.sec_base.specs.declared.place.Place.{Place};
 ghost use Rattle.sec_base.specs.declared.place.Place.TheVariants.{Line as line_place};
 ghost use Rattle.sec_base.specs.declared.sealed.Sealed.{Sealed};
 ghost use Rattle.sec_base.specs.declared.stop.MemStop.TheVariants.{Tampered, Spent};
+ghost use Rattle.bus_model.specs.Access.{Access, Reaches};
 ghost use Rattle.bus_model.specs.BusHistory.{after_write};
 ghost use Rattle.tag_engine.specs.TagEngine.{after_make, tags_of};
 ghost use Rattle.checked_bus.specs.Checks.{IsCheckedRead};
+ghost use Rattle.checked_bus.specs.Makes.{ReadsPlace, WritesMessage, access_of, if_done};
 ghost use Rattle.checked_bus.specs.SealedLine.{sealed_line};
 ghost use Rattle.checked_bus.specs.Steps.{IsAccounted, IsCurrent, Moves, ReadsOnce, SamePlace, WritesOnce};
 
@@ -35,6 +37,13 @@ pub fn read_line<B: Bus, T: Tagger>(
     // What the bus answered, and what the check made of the engine.
     ensures read { IsCheckedRead (tags_of T.data_tag_of T.node_tag_of tags.old) line counter
         (B.history bus.old) (B.history bus.new) tags.old tags.new result }
+
+    // It is one read. What is expected is that the counter is the line's last.
+    ensures makes { (accesses : List Access) × B.moved bus.old accesses bus.new
+        × ReadsPlace (tags_of T.data_tag_of T.node_tag_of tags.old)
+        (λ used. IsCurrent (tags_of T.data_tag_of T.node_tag_of tags.old) used tags.old.made
+        (B.history bus.old).written line counter) (line_place line)
+        (B.history bus.old) tags.old (B.history bus.new) tags.new accesses (result_err result) }
 
     ensures moves { Moves (B.history bus.old) tags.old (B.history bus.new) tags.new }
     ensures once { ReadsOnce (line_place line) (B.history bus.old) tags.old (B.history bus.new) tags.new (result_err result) }
@@ -67,7 +76,7 @@ pub fn read_line<B: Bus, T: Tagger>(
         IsCurrent (tags_of T.data_tag_of T.node_tag_of tags.old) used tags.old.made (B.history bus.old).written line counter →
         tags.old.evidence ≡ None → (tags.new.evidence ≡ None) ⊎ Rose (B.history bus.old).lies (B.history bus.new).lies }
     ensures unspent { (page : ℕ) → result ≢ Err (Spent page) }
-    ensures moved { B.moved bus.old bus.new }
+    ensures moved { Reaches B.moved bus.old bus.new }
 {
     let sealed = bus.read_data(line)?;
     if !tags.check_data(line, counter, &sealed) {
@@ -95,6 +104,12 @@ pub fn write_line<B: Bus, T: Tagger>(
         (sealed_line (tags_of T.data_tag_of T.node_tag_of tags.old) line counter cipher.now) (B.history bus.old)) }
     ensures err { OnErr result (B.history bus.new ≡ B.history bus.old) }
 
+    // It is one write, of the message.
+    ensures makes { B.moved bus.old (if_done result (access_of (tags_of T.data_tag_of T.node_tag_of tags.old)
+        (Line line counter cipher.now))) bus.new
+        × WritesMessage (tags_of T.data_tag_of T.node_tag_of tags.old) (Line line counter cipher.now)
+        (B.history bus.old) tags.old (B.history bus.new) tags.new result }
+
     ensures moves { Moves (B.history bus.old) tags.old (B.history bus.new) tags.new }
     ensures once { OnOk result (WritesOnce (line_place line)
         (sealed_line (tags_of T.data_tag_of T.node_tag_of tags.old) line counter cipher.now)
@@ -106,7 +121,7 @@ pub fn write_line<B: Bus, T: Tagger>(
     ensures honest { (used more : List (ℕ × Counter)) →
         IsAccounted (tags_of T.data_tag_of T.node_tag_of tags.old) used tags.old.made (B.history bus.old) None tags.old.evidence →
         IsAccounted (tags_of T.data_tag_of T.node_tag_of tags.old) more tags.new.made (B.history bus.new) None tags.new.evidence }
-    ensures moved { B.moved bus.old bus.new }
+    ensures moved { Reaches B.moved bus.old bus.new }
 {
     let tag = tags.make_data(line, counter, cipher)?;
     let sealed = Sealed {

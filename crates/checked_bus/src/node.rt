@@ -11,9 +11,11 @@ ghost use Rattle.sec_base.specs.declared.message.Message.TheVariants.{Node};
 ghost use Rattle.sec_base.specs.declared.place.Place.{Place};
 ghost use Rattle.sec_base.specs.declared.place.Place.TheVariants.{Node as node_place};
 ghost use Rattle.sec_base.specs.declared.stop.MemStop.TheVariants.{Tampered, Spent};
+ghost use Rattle.bus_model.specs.Access.{Access, Reaches};
 ghost use Rattle.bus_model.specs.BusHistory.{after_write};
 ghost use Rattle.tag_engine.specs.TagEngine.{after_make, tags_of};
 ghost use Rattle.checked_bus.specs.Checks.{IsCheckedNode};
+ghost use Rattle.checked_bus.specs.Makes.{ReadsPlace, WritesMessage, access_of, if_done};
 ghost use Rattle.checked_bus.specs.Steps.{IsAccounted, IsCurrentNode, Moves, ReadsOnce, SameLines, SamePlace, WritesOnce};
 
 use bus_model::Bus;
@@ -35,6 +37,13 @@ pub fn read_node<B: Bus, T: Tagger>(
     // What the bus answered, and what the check made of the engine.
     ensures read { IsCheckedNode (tags_of T.data_tag_of T.node_tag_of tags.old) level index tag.now
         (B.history bus.old) (B.history bus.new) tags.old tags.new result }
+
+    // It is one read. What is expected is that the tag is that of the node's last block.
+    ensures makes { (accesses : List Access) × B.moved bus.old accesses bus.new
+        × ReadsPlace (tags_of T.data_tag_of T.node_tag_of tags.old)
+        (λ used. IsCurrentNode (tags_of T.data_tag_of T.node_tag_of tags.old) tags.old.made
+        (B.history bus.old).written level index tag.now) (node_place level index)
+        (B.history bus.old) tags.old (B.history bus.new) tags.new accesses (result_err result) }
 
     ensures moves { Moves (B.history bus.old) tags.old (B.history bus.new) tags.new }
     ensures once { ReadsOnce (node_place level index) (B.history bus.old) tags.old (B.history bus.new) tags.new (result_err result) }
@@ -68,7 +77,7 @@ pub fn read_node<B: Bus, T: Tagger>(
     ensures shown { IsCurrentNode (tags_of T.data_tag_of T.node_tag_of tags.old) tags.old.made (B.history bus.old).written level index tag.now →
         tags.old.evidence ≡ None → tags.new.evidence ≢ None → Rose (B.history bus.old).lies (B.history bus.new).lies }
     ensures unspent { (page : ℕ) → result ≢ Err (Spent page) }
-    ensures moved { B.moved bus.old bus.new }
+    ensures moved { Reaches B.moved bus.old bus.new }
     ensures long { IfOk result (λ block. length block ≡ 64) }
 {
     let block = bus.read_node(level, index)?;
@@ -98,6 +107,12 @@ pub fn write_node<B: Bus, T: Tagger>(
     ensures ok { OnOk result (B.history bus.new ≡ after_write (node_place level index) block.now (B.history bus.old)) }
     ensures err { OnErr result (B.history bus.new ≡ B.history bus.old) }
 
+    // It is one write, of the message.
+    ensures makes { B.moved bus.old (if_done result (access_of (tags_of T.data_tag_of T.node_tag_of tags.old)
+        (Node level index block.now))) bus.new
+        × WritesMessage (tags_of T.data_tag_of T.node_tag_of tags.old) (Node level index block.now)
+        (B.history bus.old) tags.old (B.history bus.new) tags.new result }
+
     ensures moves { Moves (B.history bus.old) tags.old (B.history bus.new) tags.new }
     ensures once { OnOk result (WritesOnce (node_place level index) block.now (B.history bus.old) (B.history bus.new)) }
     ensures others { (other : Place) → other ≢ node_place level index →
@@ -108,7 +123,7 @@ pub fn write_node<B: Bus, T: Tagger>(
     ensures honest { (used more : List (ℕ × Counter)) →
         IsAccounted (tags_of T.data_tag_of T.node_tag_of tags.old) used tags.old.made (B.history bus.old) None tags.old.evidence →
         IsAccounted (tags_of T.data_tag_of T.node_tag_of tags.old) more tags.new.made (B.history bus.new) None tags.new.evidence }
-    ensures moved { B.moved bus.old bus.new }
+    ensures moved { Reaches B.moved bus.old bus.new }
 {
     let tag = tags.make_node(level, index, block)?;
     bus.write_node(level, index, block)?;

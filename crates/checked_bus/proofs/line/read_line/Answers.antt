@@ -1,11 +1,11 @@
-use Rattle.std.proofs.Common.{◌≡◌, Bool, false, Ok, Err, ap, refl, rules, sym, ◌∙◌}
+use Rattle.std.proofs.Common.{◌≡◌, Bool, false, [], Ok, Err, ap, refl, rules, sym, ◌∙◌}
 use Rattle.sec_base.specs.declared.place.Place.TheVariants.{Line as line_place}
 use Rattle.sec_base.specs.declared.stop.MemStop.TheVariants.{Tampered}
 use Rattle.sec_base.specs.Message.{data_bytes}
 use Rattle.tag_engine.specs.Tag.{engine_tag}
 use Rattle.tag_engine.specs.TagEngine.{after_check_data, tags_of}
 use Rattle.tag_engine.proofs.Upkeep.{failed_check}
-use Rattle.checked_bus.proofs.CheckedReads.{read_moves, read_once, read_others, read_accepted, tampered_lied, shown_lied, read_honest}
+use Rattle.checked_bus.proofs.CheckedReads.{failed_makes, passed_makes, refused_makes, read_moves, read_once, read_others, read_accepted, tampered_lied, shown_lied, read_honest}
 use Rattle.checked_bus.proofs.Evidences.{none_or}
 use Rattle.tag_engine.proofs.Marks.{marked_long}
 use Rattle.checked_bus.proofs.line.read_line.Goals as goal
@@ -24,6 +24,15 @@ returns-in_err-sealed-clause-honest g c = λ used current was.
     (g.met.T.Tagger.data_tag_long c.args.tags.now.tagger (data_bytes c.args.line c.args.counter cipher)))
     used current c.from_residual.result (returns-in_err-sealed-clause-read g c) was
 
+pub returns-in_err-sealed-clause-makes : goal.returns-in_err-sealed-clause-makes
+returns-in_err-sealed-clause-makes g c = (
+  [],
+  c.in_err-sealed.ensures.access,
+  refused_makes (tags_of g.T.Tagger.data_tag_of g.T.Tagger.node_tag_of c.args.tags.now) _ (line_place c.args.line)
+      (g.B.Bus.history c.args.bus.now) (g.B.Bus.history c.read_data.new.self) c.args.tags.now c.args.tags.now c.from_residual.result
+      (search rules) (g.met.B.Bus.told c.args.bus.now c.read_data.new.self [] c.in_err-sealed.ensures.access) refl,
+)
+
 -- Failed
 
 pub returns-then-not-check_data-clause-read : goal.returns-then-not-check_data-clause-read
@@ -33,7 +42,7 @@ returns-then-not-check_data-clause-read g c =
       record {
         sealed = c.in_ok-sealed.sealed;
         untagged = λ tagged. let passes = c.check_data.ensures.passes.1 tagged in absurd (cc);
-        answered = c.in_ok-sealed.ensures.ok;
+        answered = g.met.B.Bus.told c.args.bus.now c.read_data.new.self _ c.in_ok-sealed.ensures.access;
         long = search rules;
         tag_long = search rules;
         unchanged = c.check_data.ensures.state
@@ -41,6 +50,18 @@ returns-then-not-check_data-clause-read g c =
             ∙ sym (failed_check c.args.tags.now c.args.line c.args.counter c.in_ok-sealed.sealed);
       },
     )
+
+pub returns-then-not-check_data-clause-makes : goal.returns-then-not-check_data-clause-makes
+unfolding engine_tag returns-then-not-check_data-clause-read
+returns-then-not-check_data-clause-makes g c = (
+  _,
+  c.in_ok-sealed.ensures.access,
+  failed_makes (tags_of g.T.Tagger.data_tag_of g.T.Tagger.node_tag_of c.args.tags.now) c.args.line c.args.counter
+      (g.B.Bus.history c.args.bus.now) (g.B.Bus.history c.read_data.new.self) c.args.tags.now c.check_data.new.self
+      (λ cipher. marked_long c.args.tags.now.geometry.layout (g.T.Tagger.data_tag_of c.args.tags.now.tagger (data_bytes c.args.line c.args.counter cipher))
+      (g.met.T.Tagger.data_tag_long c.args.tags.now.tagger (data_bytes c.args.line c.args.counter cipher)))
+      (returns-then-not-check_data-clause-read g c).1,
+)
 
 pub returns-then-not-check_data-clause-moves : goal.returns-then-not-check_data-clause-moves
 returns-then-not-check_data-clause-moves g c =
@@ -138,3 +159,15 @@ returns-clause-shown g c = λ used current quiet.
     (λ cipher. marked_long c.args.tags.now.geometry.layout (g.T.Tagger.data_tag_of c.args.tags.now.tagger (data_bytes c.args.line c.args.counter cipher))
     (g.met.T.Tagger.data_tag_long c.args.tags.now.tagger (data_bytes c.args.line c.args.counter cipher)))
     used current (Ok c.in_ok-sealed.sealed.cipher) (returns-clause-read g c) quiet)
+
+pub returns-clause-makes : goal.returns-clause-makes
+unfolding engine_tag returns-clause-read
+returns-clause-makes g c = (
+  _,
+  c.in_ok-sealed.ensures.access,
+  passed_makes (tags_of g.T.Tagger.data_tag_of g.T.Tagger.node_tag_of c.args.tags.now) c.args.line c.args.counter
+      (g.B.Bus.history c.args.bus.now) (g.B.Bus.history c.read_data.new.self) c.args.tags.now c.check_data.new.self
+      (λ cipher. marked_long c.args.tags.now.geometry.layout (g.T.Tagger.data_tag_of c.args.tags.now.tagger (data_bytes c.args.line c.args.counter cipher))
+      (g.met.T.Tagger.data_tag_long c.args.tags.now.tagger (data_bytes c.args.line c.args.counter cipher)))
+      (returns-clause-read g c),
+)

@@ -1,20 +1,51 @@
-use Rattle.std.proofs.Common.{rules, subst, sym}
+use Rattle.std.proofs.Common.{◌≡◌, ℕ, List, ◌++◌, OnOk, rules, ap, subst, sym}
 use Rattle.sec_base.specs.Geometry.{GeometryView}
 use Rattle.sec_base.specs.Tag.{IsTag}
 use Rattle.tag_engine.proofs.Marks.{engine_tag_fits}
 use Rattle.sec_base.specs.Evidence.{sealed_bytes}
+use Rattle.sec_base.specs.declared.message.Message.{Message}
 use Rattle.sec_base.specs.declared.message.Message.TheVariants.{Line}
 use Rattle.sec_base.specs.declared.place.Place.TheVariants.{Line as line_place}
+use Rattle.bus_model.specs.Access.{Access}
+use Rattle.bus_model.specs.BusHistory.{after_write}
 use Rattle.tag_engine.specs.TagEngine.{tags_of}
+use Rattle.checked_bus.specs.Makes.{access_of, if_done}
 use Rattle.checked_bus.specs.SealedLine.{sealed_line}
-use Rattle.checked_bus.proofs.TaggedWrites.{done_or_not, where_done, wrote_once, wrote_or_not, line_last, write_moves, write_others, write_accounted}
+use Rattle.checked_bus.proofs.TaggedWrites.{if_wrote, one_done, where_done, wrote_once, wrote_or_not, write_makes, line_last, write_moves, write_others, write_accounted}
 use Rattle.checked_bus.proofs.line.write_line.Goals as goal
 
 pub returns-clause-made : goal.returns-clause-made
 returns-clause-made g c = search rules
 
 pub returns-clause-ok : goal.returns-clause-ok
-returns-clause-ok g c = search rules
+returns-clause-ok g c =
+    let old = g.B.Bus.history c.args.bus.now in
+    let new = g.B.Bus.history c.write_data.new.self in
+    subst (λ (tag : List ℕ). OnOk c.write_data.result (new ≡ after_write (line_place c.args.line) (c.args.cipher.now ++ tag) old))
+    c.in_ok-tag.ensures.tag
+    (if_wrote (line_place c.args.line) (sealed_bytes (record { cipher = c.args.cipher.now; tag = c.in_ok-tag.tag })) old new
+    c.write_data.result (g.met.B.Bus.told c.args.bus.now c.write_data.new.self _ c.write_data.ensures.access)).0
+
+pub returns-clause-err : goal.returns-clause-err
+returns-clause-err g c =
+    (if_wrote (line_place c.args.line) (sealed_bytes (record { cipher = c.args.cipher.now; tag = c.in_ok-tag.tag }))
+    (g.B.Bus.history c.args.bus.now) (g.B.Bus.history c.write_data.new.self)
+    c.write_data.result (g.met.B.Bus.told c.args.bus.now c.write_data.new.self _ c.write_data.ensures.access)).1
+
+pub returns-clause-makes : goal.returns-clause-makes
+returns-clause-makes g c =
+    let tag_of : Message → List ℕ = tags_of g.T.Tagger.data_tag_of g.T.Tagger.node_tag_of c.args.tags.now in
+    let message : Message = Line c.args.line c.args.counter c.args.cipher.now in
+    let wrote : g.B.Bus.moved c.args.bus.now (if_done c.write_data.result (access_of tag_of message)) c.write_data.new.self =
+    subst (λ (accesses : List Access). g.B.Bus.moved c.args.bus.now accesses c.write_data.new.self)
+    (one_done (line_place c.args.line) (sealed_bytes (record { cipher = c.args.cipher.now; tag = c.in_ok-tag.tag }))
+    (sealed_line tag_of c.args.line c.args.counter c.args.cipher.now) c.write_data.result
+    (ap (λ (tag : List ℕ). c.args.cipher.now ++ tag) c.in_ok-tag.ensures.tag)) c.write_data.ensures.access in (
+      wrote,
+      write_makes tag_of message (g.B.Bus.history c.args.bus.now) (g.B.Bus.history c.write_data.new.self)
+          c.args.tags.now c.make_data.new.self (returns-clause-made g c) c.write_data.result
+          (g.met.B.Bus.told c.args.bus.now c.write_data.new.self _ wrote),
+    )
 
 pub returns-clause-moves : goal.returns-clause-moves
 returns-clause-moves g c =
@@ -22,7 +53,7 @@ returns-clause-moves g c =
     (g.B.Bus.history c.args.bus.now) (g.B.Bus.history c.write_data.new.self) c.args.tags.now c.make_data.new.self (returns-clause-made g c)
     (wrote_or_not (line_place c.args.line) (sealed_bytes (record { cipher = c.args.cipher.now; tag = c.in_ok-tag.tag }))
     (g.B.Bus.history c.args.bus.now) (g.B.Bus.history c.write_data.new.self)
-    (done_or_not c.write_data.result c.write_data.ensures.ok c.write_data.ensures.err))
+    c.write_data.result (g.met.B.Bus.told c.args.bus.now c.write_data.new.self _ c.write_data.ensures.access))
 
 pub returns-clause-once : goal.returns-clause-once
 returns-clause-once g c =
@@ -38,7 +69,7 @@ returns-clause-others g c =
     (g.B.Bus.history c.args.bus.now) (g.B.Bus.history c.write_data.new.self) c.args.tags.now c.make_data.new.self (returns-clause-made g c)
     (wrote_or_not (line_place c.args.line) (sealed_bytes (record { cipher = c.args.cipher.now; tag = c.in_ok-tag.tag }))
     (g.B.Bus.history c.args.bus.now) (g.B.Bus.history c.write_data.new.self)
-    (done_or_not c.write_data.result c.write_data.ensures.ok c.write_data.ensures.err))
+    c.write_data.result (g.met.B.Bus.told c.args.bus.now c.write_data.new.self _ c.write_data.ensures.access))
     (line_last c.args.tags.now.made c.args.line c.args.counter c.args.cipher.now)
 
 pub returns-clause-honest : goal.returns-clause-honest
@@ -47,7 +78,7 @@ returns-clause-honest g c =
     (g.B.Bus.history c.args.bus.now) (g.B.Bus.history c.write_data.new.self) c.args.tags.now c.make_data.new.self (returns-clause-made g c)
     (wrote_or_not (line_place c.args.line) (sealed_bytes (record { cipher = c.args.cipher.now; tag = c.in_ok-tag.tag }))
     (g.B.Bus.history c.args.bus.now) (g.B.Bus.history c.write_data.new.self)
-    (done_or_not c.write_data.result c.write_data.ensures.ok c.write_data.ensures.err))
+    c.write_data.result (g.met.B.Bus.told c.args.bus.now c.write_data.new.self _ c.write_data.ensures.access))
     (tags_of g.T.Tagger.data_tag_of g.T.Tagger.node_tag_of c.args.tags.now)
 
 pub write_data-requires-clause-fits : goal.write_data-requires-clause-fits

@@ -1,16 +1,26 @@
-use Rattle.std.proofs.Common.{◌≡◌, Bool, false, Ok, Err, ap, refl, rules, sym, ◌∙◌}
+use Rattle.std.proofs.Common.{◌≡◌, Bool, false, [], Ok, Err, ap, refl, rules, sym, ◌∙◌}
 use Rattle.sec_base.specs.declared.evidence.Evidence.TheVariants.{Collision}
 use Rattle.sec_base.specs.declared.place.Place.TheVariants.{Node as node_place}
 use Rattle.sec_base.specs.declared.stop.MemStop.TheVariants.{Tampered}
 use Rattle.tag_engine.specs.TagEngine.{after_check_node, tags_of}
 use Rattle.tag_engine.proofs.Upkeep.{failed_check_node}
-use Rattle.checked_bus.proofs.CheckedNodes.{node_moves, node_once, node_others, node_lines, node_accepted, stopped_quiet, node_lied, collided_lied, node_honest}
+use Rattle.checked_bus.proofs.CheckedNodes.{failed_makes, passed_makes, node_moves, node_once, node_others, node_lines, node_accepted, stopped_quiet, node_lied, collided_lied, node_honest}
+use Rattle.checked_bus.proofs.CheckedReads.{refused_makes}
 use Rattle.checked_bus.proofs.node.read_node.Goals as goal
 
 -- Refused, out of memory
 
 pub returns-in_err-block-clause-read : goal.returns-in_err-block-clause-read
 returns-in_err-block-clause-read g c = search rules
+
+pub returns-in_err-block-clause-makes : goal.returns-in_err-block-clause-makes
+returns-in_err-block-clause-makes g c = (
+  [],
+  c.in_err-block.ensures.access,
+  refused_makes (tags_of g.T.Tagger.data_tag_of g.T.Tagger.node_tag_of c.args.tags.now) _ (node_place c.args.level c.args.index)
+      (g.B.Bus.history c.args.bus.now) (g.B.Bus.history c.read_node.new.self) c.args.tags.now c.args.tags.now c.from_residual.result
+      (search rules) (g.met.B.Bus.told c.args.bus.now c.read_node.new.self [] c.in_err-block.ensures.access) refl,
+)
 
 pub returns-in_err-block-clause-lines : goal.returns-in_err-block-clause-lines
 returns-in_err-block-clause-lines g c =
@@ -33,7 +43,7 @@ returns-then-not-check_node-clause-read g c =
       record {
         block = c.in_ok-block.block;
         untagged = λ tagged. let passes = c.check_node.ensures.passes.1 tagged in absurd (cc);
-        answered = c.in_ok-block.ensures.ok;
+        answered = g.met.B.Bus.told c.args.bus.now c.read_node.new.self _ c.in_ok-block.ensures.access;
         long = search rules;
         unchanged = c.check_node.ensures.state
             ∙ ap (λ (passes : Bool). after_check_node (tags_of g.T.Tagger.data_tag_of g.T.Tagger.node_tag_of c.args.tags.now)
@@ -42,6 +52,16 @@ returns-then-not-check_node-clause-read g c =
             c.args.level c.args.index c.in_ok-block.block c.args.tag.now);
       },
     )
+
+pub returns-then-not-check_node-clause-makes : goal.returns-then-not-check_node-clause-makes
+unfolding returns-then-not-check_node-clause-read
+returns-then-not-check_node-clause-makes g c = (
+  _,
+  c.in_ok-block.ensures.access,
+  failed_makes (tags_of g.T.Tagger.data_tag_of g.T.Tagger.node_tag_of c.args.tags.now) c.args.level c.args.index c.args.tag.now
+      (g.B.Bus.history c.args.bus.now) (g.B.Bus.history c.read_node.new.self) c.args.tags.now c.check_node.new.self
+      (returns-then-not-check_node-clause-read g c).1,
+)
 
 pub returns-then-not-check_node-clause-moves : goal.returns-then-not-check_node-clause-moves
 returns-then-not-check_node-clause-moves g c =
@@ -98,6 +118,16 @@ returns-then-not-check_node-clause-shown g c = λ current quiet shown.
 
 pub returns-clause-read : goal.returns-clause-read
 returns-clause-read g c = search rules
+
+pub returns-clause-makes : goal.returns-clause-makes
+unfolding returns-clause-read
+returns-clause-makes g c = (
+  _,
+  c.in_ok-block.ensures.access,
+  passed_makes (tags_of g.T.Tagger.data_tag_of g.T.Tagger.node_tag_of c.args.tags.now) c.args.level c.args.index c.args.tag.now
+      (g.B.Bus.history c.args.bus.now) (g.B.Bus.history c.read_node.new.self) c.args.tags.now c.check_node.new.self
+      (returns-clause-read g c),
+)
 
 pub returns-clause-moves : goal.returns-clause-moves
 returns-clause-moves g c =

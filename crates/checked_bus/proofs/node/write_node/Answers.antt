@@ -1,8 +1,12 @@
-use Rattle.std.proofs.Common.{rules}
+use Rattle.std.proofs.Common.{ℕ, List, Ok, rules, subst}
+use Rattle.sec_base.specs.declared.message.Message.{Message}
 use Rattle.sec_base.specs.declared.message.Message.TheVariants.{Node}
+use Rattle.sec_base.specs.declared.stop.NoMemory.{NoMemory}
 use Rattle.sec_base.specs.declared.place.Place.TheVariants.{Node as node_place}
+use Rattle.bus_model.specs.Access.{Access}
 use Rattle.tag_engine.specs.TagEngine.{tags_of}
-use Rattle.checked_bus.proofs.TaggedWrites.{done_or_not, wrote_once, wrote_or_not, node_last, no_line_made, write_moves, write_others, write_lines, write_accounted}
+use Rattle.checked_bus.specs.Makes.{access_of, if_done}
+use Rattle.checked_bus.proofs.TaggedWrites.{none_done, wrote_once, write_makes, wrote_or_not, node_last, no_line_made, write_moves, write_others, write_lines, write_accounted}
 use Rattle.checked_bus.proofs.CheckedNodes.{no_line}
 use Rattle.checked_bus.proofs.node.write_node.Goals as goal
 
@@ -11,12 +15,26 @@ use Rattle.checked_bus.proofs.node.write_node.Goals as goal
 pub returns-in_err-write_node-clause-made : goal.returns-in_err-write_node-clause-made
 returns-in_err-write_node-clause-made g c = search rules
 
+pub returns-in_err-write_node-clause-makes : goal.returns-in_err-write_node-clause-makes
+returns-in_err-write_node-clause-makes g c =
+    let message : Message = Node c.args.level c.args.index c.args.block.now in
+    let tag_of : Message → List ℕ = tags_of g.T.Tagger.data_tag_of g.T.Tagger.node_tag_of c.args.tags.now in
+    let result = c.from_residual-in_err-write_node.result in
+    let none : g.B.Bus.moved c.args.bus.now (if_done result (access_of tag_of message)) c.write_node.new.self =
+    subst (λ (accesses : List Access). g.B.Bus.moved c.args.bus.now accesses c.write_node.new.self)
+    (none_done result (access_of tag_of message) c.from_residual-in_err-write_node.ensures.0) c.in_err-write_node.ensures.access in (
+      none,
+      write_makes tag_of message (g.B.Bus.history c.args.bus.now) (g.B.Bus.history c.write_node.new.self)
+          c.args.tags.now c.make_node.new.self (returns-in_err-write_node-clause-made g c) result
+          (g.met.B.Bus.told c.args.bus.now c.write_node.new.self _ none),
+    )
+
 pub returns-in_err-write_node-clause-others : goal.returns-in_err-write_node-clause-others
 returns-in_err-write_node-clause-others g c =
     write_others (node_place c.args.level c.args.index) (Node c.args.level c.args.index c.args.block.now)
     (g.B.Bus.history c.args.bus.now) (g.B.Bus.history c.write_node.new.self) c.args.tags.now c.make_node.new.self (returns-in_err-write_node-clause-made g c)
     (wrote_or_not (node_place c.args.level c.args.index) c.args.block.now (g.B.Bus.history c.args.bus.now) (g.B.Bus.history c.write_node.new.self)
-    (done_or_not c.write_node.result c.write_node.ensures.ok c.write_node.ensures.err))
+    c.write_node.result (g.met.B.Bus.told c.args.bus.now c.write_node.new.self _ c.write_node.ensures.access))
     (node_last c.args.tags.now.made c.args.level c.args.index c.args.block.now)
 
 pub returns-in_err-write_node-clause-lines : goal.returns-in_err-write_node-clause-lines
@@ -24,7 +42,7 @@ returns-in_err-write_node-clause-lines g c =
     write_lines (node_place c.args.level c.args.index) (Node c.args.level c.args.index c.args.block.now)
     (g.B.Bus.history c.args.bus.now) (g.B.Bus.history c.write_node.new.self) c.args.tags.now c.make_node.new.self (returns-in_err-write_node-clause-made g c)
     (wrote_or_not (node_place c.args.level c.args.index) c.args.block.now (g.B.Bus.history c.args.bus.now) (g.B.Bus.history c.write_node.new.self)
-    (done_or_not c.write_node.result c.write_node.ensures.ok c.write_node.ensures.err))
+    c.write_node.result (g.met.B.Bus.told c.args.bus.now c.write_node.new.self _ c.write_node.ensures.access))
     (no_line_made c.args.level c.args.index c.args.block.now) (no_line c.args.level c.args.index)
 
 pub returns-in_err-write_node-clause-honest : goal.returns-in_err-write_node-clause-honest
@@ -32,7 +50,7 @@ returns-in_err-write_node-clause-honest g c =
     write_accounted (node_place c.args.level c.args.index) (Node c.args.level c.args.index c.args.block.now)
     (g.B.Bus.history c.args.bus.now) (g.B.Bus.history c.write_node.new.self) c.args.tags.now c.make_node.new.self (returns-in_err-write_node-clause-made g c)
     (wrote_or_not (node_place c.args.level c.args.index) c.args.block.now (g.B.Bus.history c.args.bus.now) (g.B.Bus.history c.write_node.new.self)
-    (done_or_not c.write_node.result c.write_node.ensures.ok c.write_node.ensures.err))
+    c.write_node.result (g.met.B.Bus.told c.args.bus.now c.write_node.new.self _ c.write_node.ensures.access))
     (tags_of g.T.Tagger.data_tag_of g.T.Tagger.node_tag_of c.args.tags.now)
 
 -- Written
@@ -40,12 +58,21 @@ returns-in_err-write_node-clause-honest g c =
 pub returns-clause-made : goal.returns-clause-made
 returns-clause-made g c = search rules
 
+pub returns-clause-makes : goal.returns-clause-makes
+returns-clause-makes g c = (
+  c.in_ok-write_node.ensures.access,
+  write_makes (tags_of g.T.Tagger.data_tag_of g.T.Tagger.node_tag_of c.args.tags.now)
+      (Node c.args.level c.args.index c.args.block.now) (g.B.Bus.history c.args.bus.now) (g.B.Bus.history c.write_node.new.self)
+      c.args.tags.now c.make_node.new.self (returns-clause-made g c) {E = NoMemory} (Ok c.in_ok-tag.tag)
+      (g.met.B.Bus.told c.args.bus.now c.write_node.new.self _ c.in_ok-write_node.ensures.access),
+)
+
 pub returns-clause-moves : goal.returns-clause-moves
 returns-clause-moves g c =
     write_moves (node_place c.args.level c.args.index) (Node c.args.level c.args.index c.args.block.now)
     (g.B.Bus.history c.args.bus.now) (g.B.Bus.history c.write_node.new.self) c.args.tags.now c.make_node.new.self (returns-clause-made g c)
     (wrote_or_not (node_place c.args.level c.args.index) c.args.block.now (g.B.Bus.history c.args.bus.now) (g.B.Bus.history c.write_node.new.self)
-    (done_or_not c.write_node.result c.write_node.ensures.ok c.write_node.ensures.err))
+    c.write_node.result (g.met.B.Bus.told c.args.bus.now c.write_node.new.self _ c.write_node.ensures.access))
 
 pub returns-clause-once : goal.returns-clause-once
 returns-clause-once g c =
@@ -57,7 +84,7 @@ returns-clause-others g c =
     write_others (node_place c.args.level c.args.index) (Node c.args.level c.args.index c.args.block.now)
     (g.B.Bus.history c.args.bus.now) (g.B.Bus.history c.write_node.new.self) c.args.tags.now c.make_node.new.self (returns-clause-made g c)
     (wrote_or_not (node_place c.args.level c.args.index) c.args.block.now (g.B.Bus.history c.args.bus.now) (g.B.Bus.history c.write_node.new.self)
-    (done_or_not c.write_node.result c.write_node.ensures.ok c.write_node.ensures.err))
+    c.write_node.result (g.met.B.Bus.told c.args.bus.now c.write_node.new.self _ c.write_node.ensures.access))
     (node_last c.args.tags.now.made c.args.level c.args.index c.args.block.now)
 
 pub returns-clause-lines : goal.returns-clause-lines
@@ -65,7 +92,7 @@ returns-clause-lines g c =
     write_lines (node_place c.args.level c.args.index) (Node c.args.level c.args.index c.args.block.now)
     (g.B.Bus.history c.args.bus.now) (g.B.Bus.history c.write_node.new.self) c.args.tags.now c.make_node.new.self (returns-clause-made g c)
     (wrote_or_not (node_place c.args.level c.args.index) c.args.block.now (g.B.Bus.history c.args.bus.now) (g.B.Bus.history c.write_node.new.self)
-    (done_or_not c.write_node.result c.write_node.ensures.ok c.write_node.ensures.err))
+    c.write_node.result (g.met.B.Bus.told c.args.bus.now c.write_node.new.self _ c.write_node.ensures.access))
     (no_line_made c.args.level c.args.index c.args.block.now) (no_line c.args.level c.args.index)
 
 pub returns-clause-honest : goal.returns-clause-honest
@@ -73,5 +100,5 @@ returns-clause-honest g c =
     write_accounted (node_place c.args.level c.args.index) (Node c.args.level c.args.index c.args.block.now)
     (g.B.Bus.history c.args.bus.now) (g.B.Bus.history c.write_node.new.self) c.args.tags.now c.make_node.new.self (returns-clause-made g c)
     (wrote_or_not (node_place c.args.level c.args.index) c.args.block.now (g.B.Bus.history c.args.bus.now) (g.B.Bus.history c.write_node.new.self)
-    (done_or_not c.write_node.result c.write_node.ensures.ok c.write_node.ensures.err))
+    c.write_node.result (g.met.B.Bus.told c.args.bus.now c.write_node.new.self _ c.write_node.ensures.access))
     (tags_of g.T.Tagger.data_tag_of g.T.Tagger.node_tag_of c.args.tags.now)

@@ -1,0 +1,106 @@
+-- What a call makes of a bus and a tag engine, told by its accesses. It holds of no call, and of two calls one after the
+-- other where it holds of each.
+use Rattle.std.specs.Prelude.{◌≡◌, ◌≢◌, ◌⊎◌, ℕ, ◌+◌, ◌-◌, ◌≤◌, List, [], ◌∷◌, ◌++◌, length, map, Option, Some, None, Result, Ok, Err}
+use Rattle.sec_base.specs.Count.{Rose}
+use Rattle.sec_base.specs.Evidence.{evidence_bytes, evidence_place}
+use Rattle.sec_base.specs.declared.counter.Counter.{Counter}
+use Rattle.sec_base.specs.declared.evidence.Evidence.{Evidence}
+use Rattle.sec_base.specs.declared.evidence.Evidence.TheVariants.{Forgery, Collision}
+use Rattle.sec_base.specs.declared.message.Message.{Message}
+use Rattle.sec_base.specs.declared.message.Message.TheVariants.{Line, Node}
+use Rattle.sec_base.specs.declared.place.Place.{Place}
+use Rattle.sec_base.specs.declared.place.Place.TheVariants.{Line as line_place, Node as node_place}
+use Rattle.sec_base.specs.declared.stop.MemStop.{MemStop}
+use Rattle.sec_base.specs.declared.stop.MemStop.TheVariants.{Tampered, Spent, NoMemory}
+use Rattle.bus_model.specs.Access.{Access, Read, Write, CameBy, EndsWithRead, writes_in}
+use Rattle.bus_model.specs.BusHistory.{BusHistory}
+use Rattle.tag_engine.specs.TagEngine.{TagEngineView}
+use Rattle.checked_bus.specs.SealedLine.{sealed_line}
+use Rattle.checked_bus.specs.Steps.{IsAccounted, unwritten_in}
+
+-- the write of a message
+abbrev pub access_of : (Message → List ℕ) → Message → Access
+access_of tag_of (Line line counter cipher) = Write (line_place line) (sealed_line tag_of line counter cipher)
+access_of tag_of (Node level index block) = Write (node_place level index) block
+
+-- a forgery has this count of messages
+abbrev pub HasCount : ℕ → Evidence → Type 0
+HasCount count (Forgery line counter sealed made_count) = made_count ≡ count
+HasCount count (Collision level index made_at accepted tag) = Unit {0}
+
+-- Evidence is of an answer among these, and counts the messages that were made before it.
+pub record IsShownIn (made : ℕ) (accesses : List Access) (evidence : Evidence) : Type 0 where
+  pub before : List Access
+  pub after : List Access
+  pub is : accesses ≡ before ++ Read (evidence_place evidence) (evidence_bytes evidence) ∷ after
+  pub count : HasCount (made + length (writes_in before)) evidence
+
+-- What became of false answers, where what is expected is what stands outside.
+pub record IsChecked {T : Type 0} (tag_of : Message → List ℕ) (expected : List (ℕ × Counter) → Type 0)
+    (history : BusHistory) (engine : TagEngineView T) (history' : BusHistory) (engine' : TagEngineView T)
+    (accesses : List Access) (stop : Option MemStop) : Type 0 where
+  -- they are accounted for, with evidence from before whatever was expected
+  pub honest : (used : List (ℕ × Counter)) → (engine.evidence ≡ None → expected used) →
+      IsAccounted tag_of used engine.made history None engine.evidence →
+      IsAccounted tag_of used engine'.made history' stop engine'.evidence
+  -- nothing was found, or an answer was false
+  pub found : (used : List (ℕ × Counter)) → expected used → engine.evidence ≡ None →
+      ((engine'.evidence ≡ None) × ((place : Place) → stop ≢ Some (Tampered place))) ⊎ Rose history.lies history'.lies
+  -- evidence is of an answer among these, and tampering of the last one
+  pub shown : (evidence : Evidence) → engine.evidence ≡ None → engine'.evidence ≡ Some evidence →
+      IsShownIn (length engine.made) accesses evidence
+  pub tampered : (place : Place) → stop ≡ Some (Tampered place) → EndsWithRead place accesses
+  -- the first evidence stays
+  pub first : (evidence : Evidence) → engine.evidence ≡ Some evidence → engine'.evidence ≡ Some evidence
+
+-- A call made these accesses. Its writes are those of the messages that it made, in order, but for the last message where
+-- there was no memory to write it.
+pub record Makes {T : Type 0} (tag_of : Message → List ℕ) (expected : List (ℕ × Counter) → Type 0)
+    (history : BusHistory) (engine : TagEngineView T) (history' : BusHistory) (engine' : TagEngineView T)
+    (accesses : List Access) (stop : Option MemStop) : Type 0 where
+  pub came : CameBy history accesses history'
+  pub bus_geometry : history'.geometry ≡ history.geometry
+  pub written : List Message
+  pub unwritten : List Message
+  pub made : engine'.made ≡ engine.made ++ (written ++ unwritten)
+  pub writes : writes_in accesses ≡ map (access_of tag_of) written
+  pub few : length unwritten ≤ unwritten_in stop
+  pub geometry : engine'.geometry ≡ engine.geometry
+  pub tagger : engine'.tagger ≡ engine.tagger
+  pub room : engine'.room ≡ engine.room - length (written ++ unwritten)
+  pub checked : IsChecked tag_of expected history engine history' engine' accesses stop
+
+-- one read of a place
+pub record HasAnswer (place : Place) (accesses : List Access) : Type 0 where
+  pub bytes : List ℕ
+  pub is : accesses ≡ Read place bytes ∷ []
+
+-- the accesses of a read of a place, and of one that there was no memory for
+abbrev pub AreOneRead : Place → Option MemStop → List Access → Type 0
+AreOneRead place None accesses = HasAnswer place accesses
+AreOneRead place (Some (Tampered other)) accesses = HasAnswer place accesses × (other ≡ place)
+AreOneRead place (Some (Spent page)) accesses = ⊥
+AreOneRead place (Some NoMemory) accesses = accesses ≡ []
+
+-- A checked read is one read of its place.
+pub record ReadsPlace {T : Type 0} (tag_of : Message → List ℕ) (expected : List (ℕ × Counter) → Type 0) (place : Place)
+    (history : BusHistory) (engine : TagEngineView T) (history' : BusHistory) (engine' : TagEngineView T)
+    (accesses : List Access) (stop : Option MemStop) : Type 0 where
+  pub once : AreOneRead place stop accesses
+  pub makes : Makes tag_of expected history engine history' engine' accesses stop
+
+-- the accesses of a write, and why it stopped, by its answer
+abbrev pub if_done : {A E : Type 0} → Result A E → Access → List Access
+if_done (Ok value) access = access ∷ []
+if_done (Err error) access = []
+
+abbrev pub refusal_of : {A E : Type 0} → Result A E → Option MemStop
+refusal_of (Ok value) = None
+refusal_of (Err error) = Some NoMemory
+
+-- A tagged write is one write, whatever stood outside.
+abbrev pub WritesMessage : {T A E : Type 0} → (Message → List ℕ) → Message → BusHistory → TagEngineView T →
+    BusHistory → TagEngineView T → Result A E → Type 0
+WritesMessage tag_of message history engine history' engine' result =
+    Makes tag_of (λ used. Unit {0}) history engine history' engine'
+    (if_done result (access_of tag_of message)) (refusal_of result)
