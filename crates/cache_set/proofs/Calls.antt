@@ -129,7 +129,7 @@ module _ (count : ℕ) (sets : List (List Way)) (place : ℕ) (is : IsCache coun
           (room_without place old read_ways.set (subst (λ ways. IsSome (way_of place ways)) read_at s))
 
   -- the way that goes out is of this set
-  victim_right : (way : Way) → victim old ≡ Some way → way.place % count ≡ place % count
+  pub victim_right : (way : Way) → victim old ≡ Some way → way.place % count ≡ place % count
   victim_right way e = right_place count (place % count) old way.place read_ways.right
       (listed_found old way.place (subst IsSome (sym (victim_found old way e)) refl))
 

@@ -2,3 +2,4 @@ pub mod Ways
 pub mod Sets
 pub mod Listed
 pub mod Calls
+pub mod Bringing

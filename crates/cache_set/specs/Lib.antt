@@ -1,2 +1,3 @@
 pub mod CacheSet
 pub mod Cache
+pub mod Bringing

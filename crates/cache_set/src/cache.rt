@@ -2,7 +2,8 @@
 ghost use Rattle.std.specs.Prelude.{true, false, ◌≡◌, ◌≢◌, ◌<◌, ◌≤◌, ◌+◌, ◌*◌, ◌%◌, ◌^◌, ◌↔◌, ℕ, List, replicate, length, [], Some, None, IfOk, IfSome, IsTrue, IsSome, Contains, All};
 ghost use Rattle.std.specs.Option.{option_map};
 ghost use Rattle.sec_base.specs.Width.{width_bytes, number_at, with_number};
-ghost use Rattle.cache_set.specs.CacheSet.{HasRoom, touched, with_latest, without};
+ghost use Rattle.cache_set.specs.Bringing.{with_changed, with_new};
+ghost use Rattle.cache_set.specs.CacheSet.{HasRoom, touched, without};
 ghost use Rattle.cache_set.specs.Cache.{AreApart, IsCache, IsLatest, copy_at, new_cache, places, set_at, victim_for, way_at, with_set};
 
 use crate::cache_set::CacheSet;
@@ -85,8 +86,7 @@ impl<const SETS: usize> Cache<SETS> {
     /// Puts another copy in the most recently used way of a set, which is that of a place, and marks it.
     pub fn change(&mut self, place: u32, copy: [u8; 64])
         requires { IsLatest self.old place }
-        ensures after { self.new ≡ with_set self.old place
-            (with_latest (record { place = place; changed = true; copy = copy }) (set_at self.old place)) }
+        ensures after { self.new ≡ with_changed self.old place copy }
         ensures cache { IsCache SETS self.new }
         ensures changed { way_at self.new place ≡ Some (record { place = place; changed = true; copy = copy }) }
         ensures same { (other : ℕ) → other ≢ place → way_at self.new other ≡ way_at self.old other }
@@ -115,8 +115,8 @@ impl<const SETS: usize> Cache<SETS> {
     pub fn write(&mut self, place: u32, at: usize, width: Width, value: u32) -> bool
         requires inside { at + width_bytes width ≤ 64 }
         ensures held { IsTrue result ↔ IsSome (way_at self.old place) }
-        ensures after { IsTrue result → (copy : List ℕ) × (copy_at self.old place ≡ Some copy) × (self.new ≡ with_set self.old place
-            (with_latest (record { place = place; changed = true; copy = with_number copy at width value }) (set_at self.old place))) }
+        ensures after { IsTrue result → (copy : List ℕ) × (copy_at self.old place ≡ Some copy)
+            × (self.new ≡ with_changed self.old place (with_number copy at width value)) }
         ensures cache { IsCache SETS self.new }
         ensures changed { IsTrue result → (copy : List ℕ) → copy_at self.old place ≡ Some copy →
             way_at self.new place ≡ Some (record { place = place; changed = true; copy = with_number copy at width value }) }
@@ -143,8 +143,7 @@ impl<const SETS: usize> Cache<SETS> {
     pub fn put(&mut self, place: u32, copy: [u8; 64])
         requires absent { way_at self.old place ≡ None }
         requires room { HasRoom (set_at self.old place) }
-        ensures after { self.new ≡ with_set self.old place
-            (with_latest (record { place = place; changed = false; copy = copy }) (set_at self.old place)) }
+        ensures after { self.new ≡ with_new self.old place copy }
         ensures cache { IsCache SETS self.new }
         ensures latest { IsLatest self.new place }
         ensures put { way_at self.new place ≡ Some (record { place = place; changed = false; copy = copy }) }

@@ -28,7 +28,7 @@ use Rattle.cache_set.specs.declared.way.Way.{Way}
 use Rattle.cache_set.specs.Cache.{places}
 use Rattle.line_cache.specs.LineCache.{contents_over}
 use Rattle.line_cache.proofs.Lines.{over_nothing, over_unheld}
-use Rattle.line_cache.proofs.Steps.{unheld_none}
+use Rattle.cache_set.proofs.Bringing.{unheld_none}
 use Rattle.chip_run.specs.Run.{Terms, IsWrittenOut, most_left}
 use Rattle.chip_run.specs.declared.record.RunRecord.{RunRecord}
 use Rattle.chip_run.proofs.Ends.{OfInstructions, ReadsTurnover}

@@ -40,7 +40,7 @@ use Rattle.cache_set.specs.Cache.{places, way_at}
 use Rattle.line_cache.specs.LineCache.{contents_over, most_held}
 use Rattle.line_cache.specs.Moving.{length-contents_over}
 use Rattle.line_cache.proofs.Lines.{over_unheld}
-use Rattle.line_cache.proofs.Steps.{unheld_none}
+use Rattle.cache_set.proofs.Bringing.{unheld_none}
 use Rattle.secure_memory.specs.SecureRam.{IsMoved, IsQuiet, SecureRamView, cached_pages, contents, evidence, held_lines, lines_of, made, pages_on_chip, stopped, used}
 use Rattle.secure_memory.specs.Moving.{moved_on, on_chip_of_line, on_chip_of_page, unmoved}
 use Rattle.chip_run.proofs.TurnoverCases.{turned_by_none}

@@ -1,18 +1,17 @@
 -- What calls make of a cache of lines.
-use Rattle.std.proofs.Common.{◌≡◌, ◌≢◌, ◌⊎◌, inl, inr, ℕ, ◌*◌, ◌≤◌, List, length, Bool, true, false, Option, Some, None, IsSome, is_some, Contains, Result, Err, IfOk, refl, sym, ◌∙◌, ap, subst, arith}
+use Rattle.std.proofs.Common.{◌≡◌, ◌≢◌, ◌⊎◌, inl, inr, ℕ, ◌*◌, ◌≤◌, List, length, Bool, true, false, Option, Some, None, IsSome, Contains, Result, Err, IfOk, refl, sym, ◌∙◌, ap, subst, arith}
 use Rattle.std.specs.Option.{option_map, option_or}
 use Rattle.std.specs.Result.{result_err}
-use Rattle.std.proofs.lemmas.Bool.{true≢false}
 use Rattle.std.proofs.lemmas.Option.{none-some, same_Some}
 use Rattle.sec_base.specs.Lines.{line_at, with_line}
 use Rattle.sec_base.specs.declared.stop.MemStop.{MemStop}
 use Rattle.cache_set.specs.declared.way.Way.{Way}
-use Rattle.cache_set.specs.CacheSet.{touched}
-use Rattle.cache_set.specs.Cache.{IsCache, copy_at, places, set_at, victim_if, way_at, with_set}
-use Rattle.cache_set.proofs.Calls.{put_after_touch}
+use Rattle.cache_set.specs.Bringing.{leaving, with_room}
+use Rattle.cache_set.specs.Cache.{IsCache, copy_at, places, way_at}
+use Rattle.cache_set.proofs.Bringing.{none_leaves, not_listed}
 use Rattle.cache_set.proofs.Listed.{found_at, listed_at}
 use Rattle.cache_set.proofs.Sets.{few_in}
-use Rattle.line_cache.specs.LineCache.{AreClean, AreCopies, IsMiss, IsMissed, IsStep, IsStoppedMiss, LineCacheView, brought, brought_if, contents_over, if_changed, leaving, line_sets, most_held, with_changed, with_new, with_room}
+use Rattle.line_cache.specs.LineCache.{AreClean, AreCopies, IsMiss, IsMissed, IsStep, IsStoppedMiss, LineCacheView, contents_over, line_sets, most_held}
 use Rattle.line_cache.specs.WriteBack.{IsGone, IsWritten, written, written_if}
 use Rattle.line_cache.proofs.Lines.{clean_part, clean_written, line_written, over_gone, over_written, part_gone, same_or_not}
 
@@ -21,52 +20,11 @@ pub none_of_both : (first later : Option MemStop) → option_or first later ≡ 
 none_of_both None later h = (refl, h)
 none_of_both (Some stop) later h = grind arith
 
-some_or_none : (found : Option Way) → IsSome found ⊎ (found ≡ None)
-some_or_none None = inr refl
-some_or_none (Some way) = inl refl
-
-some_not : (found : Option Way) → IsSome found → found ≡ None → ⊥
-some_not None s none = true≢false (sym s)
-some_not (Some way) s none = true≢false (ap (λ (f : Option Way). is_some f) none)
-
-module _ (lines : List (List Way)) (is : IsCache line_sets lines) (line : ℕ) where
-  -- a line that is held has a way
-  pub way_held : Contains (places lines) line → IsSome (way_at lines line)
-  way_held c = found_at line_sets lines line is c
-
-  -- and where it has none, it is not held
-  pub not_held : way_at lines line ≡ None → ¬ (Contains (places lines) line)
-  not_held none c = some_not (way_at lines line) (way_held c) none
-
-  -- a held line may be one of those before
-  pub held_before : (before : List (List Way)) → (way_at lines line ≡ way_at before line) ⊎ (way_at lines line ≡ None) → Contains (places lines) line → Contains (places before) line
-  held_before before (inl same) c = listed_at before line (subst IsSome same (way_held c))
-  held_before before (inr none) c = absurd (not_held none c)
-
--- a line that is not held has no way
-pub unheld_none : (lines : List (List Way)) (line : ℕ) → ¬ (Contains (places lines) line) → way_at lines line ≡ None
-unheld_none lines line out = elim (some_or_none (way_at lines line)) [
-  | inl there ↦ absurd (out (listed_at lines line there))
-  | inr none ↦ none
-]
-
--- a touch is all that a held line makes of the ways
-brought_held_if : (found : Option Way) (lines : List (List Way)) (line : ℕ) (copy : List ℕ) → IsSome found → with_set lines line (touched line (set_at lines line)) ≡ brought_if found lines line copy
-brought_held_if None lines line copy s = absurd (true≢false (sym s))
-brought_held_if (Some way) lines line copy s = refl
-
-pub brought_held : (lines : List (List Way)) (line : ℕ) (copy : List ℕ) → IsSome (way_at lines line) → with_set lines line (touched line (set_at lines line)) ≡ brought lines line copy
-brought_held lines line copy s = brought_held_if (way_at lines line) lines line copy s
-
--- a line that is held, and changed then
-changed_held_if : (found : Option Way) (lines : List (List Way)) (line : ℕ) (copy copy' : List ℕ) → IsCache line_sets lines → IsSome found →
-    with_changed (brought_if found lines line copy) line copy' ≡ with_changed lines line copy'
-changed_held_if None lines line copy copy' is s = absurd (true≢false (sym s))
-changed_held_if (Some way) lines line copy copy' is s = put_after_touch line_sets lines (record { place = line; changed = true; copy = copy' }) is
-
-pub changed_held : (lines : List (List Way)) (line : ℕ) (copy copy' : List ℕ) → IsCache line_sets lines → IsSome (way_at lines line) →
-    with_changed (brought lines line copy) line copy' ≡ with_changed lines line copy'
-changed_held lines line copy copy' is s = changed_held_if (way_at lines line) lines line copy copy' is s
+-- a held line may be one of those before
+pub held_before : (lines : List (List Way)) → IsCache line_sets lines → (line : ℕ) (before : List (List Way)) →
+    (way_at lines line ≡ way_at before line) ⊎ (way_at lines line ≡ None) → Contains (places lines) line → Contains (places before) line
+held_before lines is line before (inl same) c = listed_at before line (subst IsSome same (found_at line_sets lines line is c))
+held_before lines is line before (inr none) c = absurd (not_listed line_sets lines line is none c)
 
 -- the way that goes out, and what the store has then
 module _ (count : ℕ) (stored stored' : List ℕ) (lines lines' : List (List Way)) (way : Way) (long : length stored ≡ 64 * count) (copies : AreCopies count lines) (is : way_at lines way.place ≡ Some way) (put : stored' ≡ written way stored) where
@@ -170,14 +128,6 @@ stop_kept first kept later stop e h = kept_stop first later stop (ap (λ (s : Op
 pub stop_first : (first kept later : Option MemStop) (stop : MemStop) → kept ≡ option_or first (Some stop) → first ≡ None → option_or kept later ≡ Some stop
 stop_first first kept later stop e none = ap (λ (s : Option MemStop). option_or s later) (e ∙ ap (λ (s : Option MemStop). option_or s (Some stop)) none)
 
-pub brought_missed : (lines : List (List Way)) (line : ℕ) (copy : List ℕ) → way_at lines line ≡ None → with_new (with_room lines line) line copy ≡ brought lines line copy
-brought_missed lines line copy none = ap (λ (found : Option Way). brought_if found lines line copy) (sym none)
-
--- no way goes out for a line that has one
-none_leaves : (found : Option Way) (ways : List Way) → IsSome found → if_changed (victim_if found ways) ≡ None
-none_leaves None ways there = absurd (true≢false (sym there))
-none_leaves (Some way) ways there = refl
-
 pub few_held : (lines : List (List Way)) → IsCache line_sets lines → length (places lines) ≤ most_held
 few_held lines is = omega (arith, few_in line_sets 0 lines is.sets_are, is.counted)
 
@@ -186,7 +136,7 @@ module _ {S : Type 0} (read_moved : S → ℕ → Result (List ℕ) MemStop → 
   pub step_hit : IsSome (way_at before.lines line) → after.store ≡ before.store → ((other : ℕ) → way_at after.lines other ≡ way_at before.lines other) →
       IsStep read_moved write_moved before line after
   step_hit there stays same = record {
-    hit = λ c. (stays, none_leaves (way_at before.lines line) (set_at before.lines line) there);
+    hit = λ c. (stays, none_leaves before.lines line there);
     miss = λ out. absurd (out (listed_at before.lines line there));
     held = λ other c. inl (held_before after.lines is other before.lines (inl (same other)) c);
     few = few_held after.lines is;
@@ -198,7 +148,7 @@ module _ {S : Type 0} (read_moved : S → ℕ → Result (List ℕ) MemStop → 
       ((other : ℕ) → other ≢ line → (way_at after.lines other ≡ way_at before.lines other) ⊎ (way_at after.lines other ≡ None)) →
       IsStep read_moved write_moved before line after
   step_miss none copied stop missed_it less = record {
-    hit = λ c. absurd (not_held before.lines was line none c);
+    hit = λ c. absurd (not_listed line_sets before.lines line was none c);
     miss = λ out. (missed_it.answer, missed_it.miss);
     held = λ other c. elim (same_or_not other line) [
       | inl same ↦ inr same

@@ -1,13 +1,13 @@
 -- A cache of lines over a store of lines.
-use Rattle.std.specs.Prelude.{◌≡◌, ℕ, ◌<◌, ◌≤◌, if◌then◌else◌, List, [], ◌∷◌, ◌++◌, length, take, replicate, true, false, Option, Some, None, Result, Ok, Err, IfOk, ◌⊎◌, Contains}
+use Rattle.std.specs.Prelude.{◌≡◌, ℕ, ◌<◌, ◌≤◌, List, [], ◌∷◌, ◌++◌, length, take, replicate, false, Option, Some, None, Result, Ok, Err, IfOk, ◌⊎◌, Contains}
 use Rattle.std.specs.Option.{option_or}
 use Rattle.std.specs.Result.{result_err}
 use Rattle.sec_base.specs.Lines.{IsLineCount, joined_lines, line_at}
 use Rattle.sec_base.specs.declared.geometry.TheConstants.{LINE_LEN}
 use Rattle.sec_base.specs.declared.stop.MemStop.{MemStop}
 use Rattle.cache_set.specs.declared.way.Way.{Way}
-use Rattle.cache_set.specs.CacheSet.{touched, with_latest, without}
-use Rattle.cache_set.specs.Cache.{IsCache, new_cache, copy_at, places, set_at, victim_for, way_at, with_set}
+use Rattle.cache_set.specs.Bringing.{leaving, with_room}
+use Rattle.cache_set.specs.Cache.{IsCache, new_cache, copy_at, places, way_at}
 
 -- the number of sets
 abbrev pub line_sets : ℕ
@@ -44,32 +44,6 @@ laid_over (Some way) stored = whole_line way.copy
 abbrev pub contents_over : List ℕ → ℕ → List (List Way) → List ℕ
 contents_over stored count lines = joined_lines (λ line. laid_over (way_at lines line) (line_at stored line)) count
 
--- the cache as a line comes that has no way: the way that goes out for it is gone
-abbrev pub room_if : Option Way → List (List Way) → List (List Way)
-room_if None lines = lines
-room_if (Some victim) lines = with_set lines victim.place (without victim.place (set_at lines victim.place))
-
--- the sets once a miss on this line has evicted its victim, if it has one
-abbrev pub with_room : List (List Way) → ℕ → List (List Way)
-with_room lines line = room_if (victim_for lines line) lines
-
--- a line is put in, with these bytes
-abbrev pub with_new : List (List Way) → ℕ → List ℕ → List (List Way)
-with_new lines line copy = with_set lines line (with_latest (record { place = line; changed = false; copy = copy }) (set_at lines line))
-
--- the cache after a line was brought in: it is the most recently used one of its set
-abbrev pub brought_if : Option Way → List (List Way) → ℕ → List ℕ → List (List Way)
-brought_if None lines line copy = with_new (with_room lines line) line copy
-brought_if (Some way) lines line copy = with_set lines line (touched line (set_at lines line))
-
--- the sets once this line is held and the latest of its set; on a miss it comes with these bytes
-abbrev pub brought : List (List Way) → ℕ → List ℕ → List (List Way)
-brought lines line copy = brought_if (way_at lines line) lines line copy
-
--- and after it was then changed
-abbrev pub with_changed : List (List Way) → ℕ → List ℕ → List (List Way)
-with_changed lines line copy = with_set lines line (with_latest (record { place = line; changed = true; copy = copy }) (set_at lines line))
-
 -- each copy is of a line of the store, and whole
 pub record AreCopies (count : ℕ) (lines : List (List Way)) : Type 0 where
   pub cache : IsCache line_sets lines
@@ -96,15 +70,6 @@ pub record IsLineCache {S : Type 0} (contents_of : S → List ℕ) (extent_of : 
   pub some_memory : IsLineCount (extent_of cache.store)
   pub copies : AreCopies (extent_of cache.store) cache.lines
   pub clean : stopped stopped_of cache ≡ None → sound cache.store → AreClean (contents_of cache.store) cache.lines
-
--- the way, where it was changed
-abbrev pub if_changed : Option Way → Option Way
-if_changed None = None
-if_changed (Some way) = if way.changed then Some way else None
-
--- the changed way that goes out for a line
-abbrev pub leaving : List (List Way) → ℕ → Option Way
-leaving lines line = if_changed (victim_for lines line)
 
 module _ {S : Type 0} (read_moved : S → ℕ → Result (List ℕ) MemStop → S → Type 0) (write_moved : S → ℕ → List ℕ → Result (Unit {0}) MemStop → S → Type 0) where
   -- a way is written, and then, unless that stopped, a line is read; the answer is the last one

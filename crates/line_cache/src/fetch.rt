@@ -4,7 +4,8 @@ ghost use Rattle.std.specs.Result.{result_err};
 ghost use Rattle.sec_base.specs.Lines.{line_at, with_line};
 ghost use Rattle.cache_set.specs.CacheSet.{HasRoom};
 ghost use Rattle.cache_set.specs.Cache.{IsLatest, copy_at, set_at, victim_for, way_at};
-ghost use Rattle.line_cache.specs.LineCache.{AreClean, AreCopies, IsMissed, IsStoppedMiss, contents_over, if_changed, leaving, with_new, with_room};
+ghost use Rattle.cache_set.specs.Bringing.{if_changed, leaving, with_new, with_room};
+ghost use Rattle.line_cache.specs.LineCache.{AreClean, AreCopies, IsMissed, IsStoppedMiss, contents_over};
 ghost use Rattle.line_cache.specs.WriteBack.{IsGone, IsWritten, written};
 
 use cache_set::{Cache, Way};

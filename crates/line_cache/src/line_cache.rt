@@ -5,7 +5,8 @@ ghost use Rattle.std.specs.Result.{result_err};
 ghost use Rattle.sec_base.specs.Geometry.{line_of};
 ghost use Rattle.sec_base.specs.Width.{width_bytes, number_at, with_number};
 ghost use Rattle.cache_set.specs.Cache.{AreApart, IsLatest, copy_at, way_at};
-ghost use Rattle.line_cache.specs.LineCache.{AreClean, IsMissed, IsMoved, IsStep, IsStoppedMiss, brought, contents, held_lines, leaving, most_held, new_lines, stopped, with_changed};
+ghost use Rattle.cache_set.specs.Bringing.{brought, leaving, with_changed};
+ghost use Rattle.line_cache.specs.LineCache.{AreClean, IsMissed, IsMoved, IsStep, IsStoppedMiss, contents, held_lines, most_held, new_lines, stopped};
 
 use crate::fetch::fetch;
 use cache_set::Cache;

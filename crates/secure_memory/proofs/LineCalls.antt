@@ -46,7 +46,8 @@ use Rattle.page_reencrypt.proofs.Sealing.{listed_or_not}
 use Rattle.cache_set.specs.declared.way.Way.{Way}
 use Rattle.cache_set.specs.Cache.{copy_at, places, way_at}
 use Rattle.cache_set.proofs.Listed.{listed_at}
-use Rattle.line_cache.specs.LineCache.{IsMiss, IsMissed, IsStep, IsStoppedMiss, LineCacheView, contents_over, leaving, most_held}
+use Rattle.cache_set.specs.Bringing.{leaving}
+use Rattle.line_cache.specs.LineCache.{IsMiss, IsMissed, IsStep, IsStoppedMiss, LineCacheView, contents_over, most_held}
 use Rattle.line_cache.specs.LineCache.{IsMoved as IsChain}
 use Rattle.line_cache.proofs.Steps.{way_of_copy}
 use Rattle.secure_memory.specs.LineCall.{IsLineCall, IsWrittenAnew, IsWrittenInPart, leaving_accesses}

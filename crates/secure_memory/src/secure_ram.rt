@@ -17,7 +17,8 @@ ghost use Rattle.split_counter.specs.CounterBlock.{block_of, counter_of, place_o
 ghost use Rattle.page_reencrypt.specs.LineMoves.{ReadMoved, WriteMoved};
 ghost use Rattle.page_reencrypt.specs.SealedLines.{AreNew, AreProtected, LinesFit, enc_key, tag_in};
 ghost use Rattle.cache_set.specs.Cache.{AreApart, copy_at, new_cache};
-ghost use Rattle.line_cache.specs.LineCache.{IsMissed, IsStoppedMiss, brought, leaving, line_sets, most_held, with_changed};
+ghost use Rattle.cache_set.specs.Bringing.{brought, leaving, with_changed};
+ghost use Rattle.line_cache.specs.LineCache.{IsMissed, IsStoppedMiss, line_sets, most_held};
 ghost use Rattle.secure_memory.specs.SecureRam.{IsMoved, IsNumberByCounters, IsNumberUnder, IsQuiet, cached_nodes, cached_pages, contents, evidence, held_lines, geometry, lines_of, made, memory_accesses, stopped, used};
 ghost use Rattle.secure_memory.specs.LineCall.{IsLineCall};
 

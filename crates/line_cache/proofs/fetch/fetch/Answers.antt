@@ -7,7 +7,8 @@ use Rattle.sec_base.specs.Lines.{line_at}
 use Rattle.sec_base.specs.declared.stop.MemStop.{MemStop}
 use Rattle.cache_set.specs.declared.way.Way.{Way}
 use Rattle.cache_set.specs.Cache.{way_at}
-use Rattle.line_cache.specs.LineCache.{AreClean, AreCopies, IsMissed, IsStoppedMiss, leaving, with_new, with_room}
+use Rattle.cache_set.specs.Bringing.{leaving, with_new, with_room}
+use Rattle.line_cache.specs.LineCache.{AreClean, AreCopies, IsMissed, IsStoppedMiss}
 use Rattle.line_cache.proofs.Lines.{clean_with, copies_with, over_put}
 use Rattle.line_cache.proofs.Steps.{missed, missed_in_part, over_equal, stopped_in_read, stopped_in_write}
 use Rattle.line_cache.proofs.fetch.fetch.Goals as goal

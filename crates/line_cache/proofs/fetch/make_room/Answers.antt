@@ -2,7 +2,8 @@ use Rattle.std.proofs.Common.{rules, ◌≡◌, ◌∙◌, inl, ℕ, Option, Non
 use Rattle.std.proofs.lemmas.Result.{err_from_is_err_and}
 use Rattle.sec_base.specs.declared.stop.MemStop.{MemStop}
 use Rattle.cache_set.specs.declared.way.Way.{Way}
-use Rattle.line_cache.specs.LineCache.{AreCopies, contents_over, if_changed, leaving, room_if}
+use Rattle.cache_set.specs.Bringing.{if_changed, leaving, room_if}
+use Rattle.line_cache.specs.LineCache.{AreCopies, contents_over}
 use Rattle.line_cache.specs.WriteBack.{IsGone, IsWritten}
 use Rattle.line_cache.proofs.Lines.{copies_part, part_gone}
 use Rattle.line_cache.proofs.Steps.{clean_gone, contents_gone, kept_in_part, less_gone}

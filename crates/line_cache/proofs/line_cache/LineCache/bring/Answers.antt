@@ -2,8 +2,10 @@ use Rattle.std.proofs.Common.{◌≡◌, ◌∙◌, ◌<◌, Some, None, sym, ap
 use Rattle.std.specs.Option.{option_or}
 use Rattle.sec_base.specs.Lines.{IsLineCount}
 use Rattle.cache_set.specs.Cache.{way_at}
-use Rattle.line_cache.specs.LineCache.{IsMissed, IsStep, IsStoppedMiss, LineCacheView, brought, contents, leaving, stopped}
-use Rattle.line_cache.proofs.Steps.{both_none, brought_missed, none_of_both, step_miss, stop_first, stop_kept}
+use Rattle.cache_set.specs.Bringing.{brought, leaving}
+use Rattle.line_cache.specs.LineCache.{IsMissed, IsStep, IsStoppedMiss, LineCacheView, contents, stopped}
+use Rattle.cache_set.proofs.Bringing.{brought_missed}
+use Rattle.line_cache.proofs.Steps.{both_none, none_of_both, step_miss, stop_first, stop_kept}
 use Rattle.line_cache.proofs.line_cache.LineCache.bring.Goals as goal
 
 pub fetch-requires-clause-inside : goal.fetch-requires-clause-inside

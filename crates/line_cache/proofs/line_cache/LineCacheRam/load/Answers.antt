@@ -1,11 +1,13 @@
 use Rattle.std.proofs.Common.{◌≡◌, ◌∙◌, ℕ, ◌%◌, ◌/◌, List, Some, IsSome, Contains, refl, sym, ap, subst}
 use Rattle.sec_base.specs.Width.{number_at}
+use Rattle.cache_set.specs.Bringing.{brought}
 use Rattle.cache_set.specs.Cache.{copy_at}
+use Rattle.cache_set.proofs.Bringing.{brought_held, not_listed}
 use Rattle.cache_set.proofs.Listed.{listed_at}
-use Rattle.line_cache.specs.LineCache.{IsStep, LineCacheView, brought, contents, held_lines, stopped}
+use Rattle.line_cache.specs.LineCache.{IsStep, LineCacheView, contents, held_lines, line_sets, stopped}
 use Rattle.line_cache.proofs.Lines.{over_touched}
 use Rattle.line_cache.proofs.Numbers.{as_before, copy_of_number, read_over}
-use Rattle.line_cache.proofs.Steps.{brought_held, copy_touched, not_held, step_hit}
+use Rattle.line_cache.proofs.Steps.{copy_touched, step_hit}
 use Rattle.line_cache.proofs.line_cache.LineCacheRam.load.Goals as goal
 
 -- a line that is held
@@ -64,7 +66,7 @@ returns-in_err-bring-clause-moved g c = (
 
 pub returns-in_err-bring-clause-hit : goal.returns-in_err-bring-clause-hit
 returns-in_err-bring-clause-hit g c = λ held.
-    absurd (not_held c.read.new.self c.read.ensures.cache (c.args.addr / 64) (c.read.ensures.absent c.in_default.is)
+    absurd (not_listed line_sets c.read.new.self (c.args.addr / 64) c.read.ensures.cache (c.read.ensures.absent c.in_default.is)
     (subst (λ (m : LineCacheView g.row.S.Denot). Contains (held_lines m) (c.args.addr / 64))
     (sym (as_before c.self.inside.store c.self.inside.stop c.self.inside.lines c.read.new.self c.args.self.now (c.read.ensures.unchanged c.in_default.is) c.self.view_is)) held))
 
@@ -90,7 +92,7 @@ returns-clause-moved g c = (
 
 pub returns-clause-hit : goal.returns-clause-hit
 returns-clause-hit g c = λ held.
-    absurd (not_held c.read.new.self c.read.ensures.cache (c.args.addr / 64) (c.read.ensures.absent c.in_default.is)
+    absurd (not_listed line_sets c.read.new.self (c.args.addr / 64) c.read.ensures.cache (c.read.ensures.absent c.in_default.is)
     (subst (λ (m : LineCacheView g.row.S.Denot). Contains (held_lines m) (c.args.addr / 64))
     (sym (as_before c.self.inside.store c.self.inside.stop c.self.inside.lines c.read.new.self c.args.self.now (c.read.ensures.unchanged c.in_default.is) c.self.view_is)) held))
 

@@ -1,12 +1,14 @@
 use Rattle.std.proofs.Common.{rules, ◌≡◌, ◌∙◌, ℕ, ◌+◌, ◌≤◌, ◌%◌, ◌/◌, List, Some, Contains, refl, sym, ap, subst}
 use Rattle.sec_base.specs.Width.{width_bytes, with_number}
 use Rattle.cache_set.specs.declared.way.Way.{Way}
+use Rattle.cache_set.specs.Bringing.{brought, with_changed}
 use Rattle.cache_set.specs.Cache.{IsLatest, copy_at, set_at}
+use Rattle.cache_set.proofs.Bringing.{changed_held, not_listed}
 use Rattle.cache_set.proofs.Listed.{listed_at}
 use Rattle.cache_set.proofs.Ways.{latest_found}
-use Rattle.line_cache.specs.LineCache.{IsStep, LineCacheView, brought, contents, held_lines, stopped, with_changed}
+use Rattle.line_cache.specs.LineCache.{IsStep, LineCacheView, contents, held_lines, line_sets, stopped}
 use Rattle.line_cache.proofs.Numbers.{as_before, clean_put, copies_put, written_over}
-use Rattle.line_cache.proofs.Steps.{changed_held, not_held, step_changed, step_hit}
+use Rattle.line_cache.proofs.Steps.{step_changed, step_hit}
 use Rattle.line_cache.proofs.line_cache.LineCacheRam.store.Goals as goal
 
 -- a line that is held
@@ -60,7 +62,7 @@ returns-then-write-clause-ways g c =
     let copy' = with_number put.0 (c.args.addr % 64) c.args.width c.args.value in (
       put.0,
       subst (λ (m : LineCacheView g.row.S.Denot). c.write.new.self ≡ with_changed (brought m.lines line put.0) line copy') c.self.view_is
-          (put.2 ∙ sym (changed_held c.self.inside.lines line put.0 copy' c.self.invariant.copies.cache (c.write.ensures.held.0 c.if-write.true))),
+          (put.2 ∙ sym (changed_held line_sets c.self.inside.lines line put.0 copy' c.self.invariant.copies.cache (c.write.ensures.held.0 c.if-write.true))),
     )
 
 -- a line that is not, and does not come
@@ -76,7 +78,7 @@ returns-in_err-bring-clause-moved g c = (
 
 pub returns-in_err-bring-clause-hit : goal.returns-in_err-bring-clause-hit
 returns-in_err-bring-clause-hit g c = λ held.
-    absurd (not_held c.write.new.self c.write.ensures.cache (c.args.addr / 64) (c.write.ensures.absent c.if-write.false)
+    absurd (not_listed line_sets c.write.new.self (c.args.addr / 64) c.write.ensures.cache (c.write.ensures.absent c.if-write.false)
     (subst (λ (m : LineCacheView g.row.S.Denot). Contains (held_lines m) (c.args.addr / 64))
     (sym (as_before c.self.inside.store c.self.inside.stop c.self.inside.lines c.write.new.self c.args.self.now (c.write.ensures.unchanged c.if-write.false) c.self.view_is)) held))
 

@@ -16,7 +16,8 @@ use Rattle.page_reencrypt.specs.Stops.{lasting_stop}
 use Rattle.page_reencrypt.proofs.Sealing.{listed_or_not}
 use Rattle.cache_set.specs.declared.way.Way.{Way}
 use Rattle.cache_set.specs.Cache.{copy_at, places}
-use Rattle.line_cache.specs.LineCache.{IsMissed, IsStoppedMiss, LineCacheView, brought, leaving}
+use Rattle.cache_set.specs.Bringing.{brought, leaving}
+use Rattle.line_cache.specs.LineCache.{IsMissed, IsStoppedMiss, LineCacheView}
 use Rattle.secure_memory.specs.LineCall.{IsLineCall}
 use Rattle.secure_memory.specs.SecureRam.{SecureRamView, IsMoved, IsNumberByCounters, IsNumberUnder, contents, evidence, geometry, memory_accesses, stopped}
 use Rattle.secure_memory.proofs.LineCalls.{accepted_copy, alone_read, called, copy_held, few_so, fits_so, found_outside, memory_of, moved_so, ok_goes, once_so, spent_contents, stands_in, stopped_unmoved, stops_so}

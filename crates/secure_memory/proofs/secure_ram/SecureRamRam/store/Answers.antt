@@ -14,7 +14,8 @@ use Rattle.page_reencrypt.specs.SealedLines.{SealedLinesView, enc_key}
 use Rattle.page_reencrypt.specs.Stops.{lasting_stop}
 use Rattle.page_reencrypt.proofs.Sealing.{listed_or_not}
 use Rattle.cache_set.specs.Cache.{copy_at, places}
-use Rattle.line_cache.specs.LineCache.{IsMissed, IsStoppedMiss, LineCacheView, brought, leaving, with_changed}
+use Rattle.cache_set.specs.Bringing.{brought, leaving, with_changed}
+use Rattle.line_cache.specs.LineCache.{IsMissed, IsStoppedMiss, LineCacheView}
 use Rattle.secure_memory.specs.LineCall.{IsLineCall}
 use Rattle.secure_memory.specs.SecureRam.{SecureRamView, IsMoved, contents, geometry, memory_accesses, stopped}
 use Rattle.secure_memory.proofs.LineCalls.{accepted_copy, called, copy_held, few_so, fits_so, found_outside, memory_of, moved_so, ok_goes, once_so, spent_contents, stopped_unmoved, stops_so}
