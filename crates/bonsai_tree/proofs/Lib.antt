@@ -9,6 +9,7 @@ pub mod Puts
 pub mod MadeSlots
 pub mod Views
 pub mod Climbs
+pub mod TreeMakes
 pub mod NodeWrites
 pub mod NodeCalls
 pub mod WrittenBack

@@ -14,13 +14,15 @@ ghost use Rattle.sec_base.specs.declared.message.Message.TheVariants.{Node};
 ghost use Rattle.sec_base.specs.declared.place.Place.{Place};
 ghost use Rattle.sec_base.specs.declared.place.Place.TheVariants.{Node as node_place};
 ghost use Rattle.sec_base.specs.declared.stop.MemStop.TheVariants.{Tampered, Spent, NoMemory as no_memory};
+ghost use Rattle.bus_model.specs.Access.{Access, Reaches};
 ghost use Rattle.bus_model.specs.BusHistory.{NothingWritten};
 ghost use Rattle.cache_set.specs.CacheSet.{HasRoom};
 ghost use Rattle.cache_set.specs.Cache.{set_at};
 ghost use Rattle.tag_engine.specs.TagEngine.{tags_of};
 ghost use Rattle.checked_bus.specs.Accesses.{WritesMessages};
+ghost use Rattle.checked_bus.specs.Makes.{Makes};
 ghost use Rattle.checked_bus.specs.Steps.{IsAccounted, Moves, SameLines, unwritten_in};
-ghost use Rattle.bonsai_tree.specs.KeptRead.{ReadsKept};
+ghost use Rattle.bonsai_tree.specs.KeptRead.{IsKeptNode, ReadsKept};
 ghost use Rattle.bonsai_tree.specs.Climb.{Climbs, IsBlockOf, IsVictim, MakesRoom, NoNode, WritesUp};
 ghost use Rattle.bonsai_tree.specs.Node.{CachedNode, block_or_zeros, level_blocks, no_tag, page_block, with_tag};
 ghost use Rattle.bonsai_tree.specs.NodeCache.{AreNodeCaches, IsLatestNode, OtherLevels, OtherNodes, level_cache, most_copies, node_way};
@@ -81,6 +83,9 @@ impl Tree {
         // Whether memory was there or not.
         ensures bus { bus.new ≡ bus.old }
         ensures tags { tags.new ≡ tags.old }
+        ensures makes { (accesses : List Access) × B.moved bus.old accesses bus.new
+            × Makes (tags_of T.data_tag_of T.node_tag_of tags.old) (λ used. Unit {0})
+            (B.history bus.old) tags.old (B.history bus.new) tags.new accesses (want_of result) }
     {
         let nodes = NodeCache::new(alloc, geometry)?;
         Ok(Tree {
@@ -158,7 +163,12 @@ impl Tree {
         ensures no_rise { tags.new.room ≤ tags.old.room }
         ensures moves { Moves (B.history bus.old) tags.old (B.history bus.new) tags.new }
         ensures lines { SameLines (B.history bus.old) tags.old.made (B.history bus.new) tags.new.made }
-        ensures moved { B.moved bus.old bus.new }
+        ensures moved { Reaches B.moved bus.old bus.new }
+        // Its accesses, where the tree is expected to fit.
+        ensures makes { (accesses : List Access) × B.moved bus.old accesses bus.new
+            × Makes (tags_of T.data_tag_of T.node_tag_of tags.old)
+            (λ used. HoldsTree (tags_of T.data_tag_of T.node_tag_of) self.old (B.history bus.old) tags.old)
+            (B.history bus.old) tags.old (B.history bus.new) tags.new accesses (result_err result) }
 
         // What has a copy on the chip was read, with the nodes above it, unless it had one or was never made.
         ensures few_copies { (level : ℕ) → length (cached_nodes self.new level) ≤ most_copies }
@@ -264,7 +274,12 @@ impl Tree {
         ensures no_rise { tags.new.room ≤ tags.old.room }
         ensures moves { Moves (B.history bus.old) tags.old (B.history bus.new) tags.new }
         ensures lines { SameLines (B.history bus.old) tags.old.made (B.history bus.new) tags.new.made }
-        ensures moved { B.moved bus.old bus.new }
+        ensures moved { Reaches B.moved bus.old bus.new }
+        // Its accesses, where the tree is expected to fit.
+        ensures makes { (accesses : List Access) × B.moved bus.old accesses bus.new
+            × Makes (tags_of T.data_tag_of T.node_tag_of tags.old)
+            (λ used. HoldsTree (tags_of T.data_tag_of T.node_tag_of) self.old (B.history bus.old) tags.old)
+            (B.history bus.old) tags.old (B.history bus.new) tags.new accesses (result_err result) }
 
         // What has a copy on the chip was read, with the nodes above it, unless it had one or was never made.
         ensures few_copies { (level : ℕ) → length (cached_nodes self.new level) ≤ most_copies }
@@ -325,7 +340,11 @@ impl Tree {
         ensures latest { OnOk result (IsLatestNode self.new.caches level index) }
         ensures out_for { HoldsTree (tags_of T.data_tag_of T.node_tag_of) self.old (B.history bus.old) tags.old →
             tags.new.evidence ≡ None → OnOk result (GoesOutFor self.old (B.history bus.old) tags.old.made self.new (B.history bus.new)) }
-        ensures moved { B.moved bus.old bus.new }
+        ensures moved { Reaches B.moved bus.old bus.new }
+        ensures makes { (accesses : List Access) × B.moved bus.old accesses bus.new
+            × Makes (tags_of T.data_tag_of T.node_tag_of tags.old)
+            (λ used. HoldsTree (tags_of T.data_tag_of T.node_tag_of) self.old (B.history bus.old) tags.old)
+            (B.history bus.old) tags.old (B.history bus.new) tags.new accesses (result_err result) }
     {
         if self.nodes.touch(level, index) {
             return Ok(());
@@ -361,7 +380,11 @@ impl Tree {
         ensures room { OnOk result (HasRoom (set_at (level_cache self.new.caches level) index)) }
         ensures out_for { HoldsTree (tags_of T.data_tag_of T.node_tag_of) self.old (B.history bus.old) tags.old →
             tags.new.evidence ≡ None → OnOk result (MakesRoom level index self.old (B.history bus.old) tags.old.made self.new (B.history bus.new)) }
-        ensures moved { B.moved bus.old bus.new }
+        ensures moved { Reaches B.moved bus.old bus.new }
+        ensures makes { (accesses : List Access) × B.moved bus.old accesses bus.new
+            × Makes (tags_of T.data_tag_of T.node_tag_of tags.old)
+            (λ used. HoldsTree (tags_of T.data_tag_of T.node_tag_of) self.old (B.history bus.old) tags.old)
+            (B.history bus.old) tags.old (B.history bus.new) tags.new accesses (result_err result) }
     {
         let Some(victim) = self.nodes.victim(level, index) else {
             return Ok(());
@@ -401,7 +424,11 @@ impl Tree {
             tags.new.evidence ≡ None → OnOk result (GoesOutFor self.old (B.history bus.old) tags.old.made self.new (B.history bus.new)) }
         ensures last { OnOk result (HoldsTree (tags_of T.data_tag_of T.node_tag_of) self.new (B.history bus.new) tags.new →
             tags.new.evidence ≡ None → victim.now.copy ≡ block_or_zeros (last_node level victim.now.place tags.new.made)) }
-        ensures moved { B.moved bus.old bus.new }
+        ensures moved { Reaches B.moved bus.old bus.new }
+        ensures makes { (accesses : List Access) × B.moved bus.old accesses bus.new
+            × Makes (tags_of T.data_tag_of T.node_tag_of tags.old)
+            (λ used. HoldsTree (tags_of T.data_tag_of T.node_tag_of) self.old (B.history bus.old) tags.old)
+            (B.history bus.old) tags.old (B.history bus.new) tags.new accesses (result_err result) }
     {
         if !victim.changed {
             return Ok(());
@@ -438,7 +465,11 @@ impl Tree {
             tags.new.evidence ≡ None → OnOk result (GoesOutFor self.old (B.history bus.old) tags.old.made self.new (B.history bus.new)) }
         ensures some { 0 < self.old.geometry.levels }
         ensures nodes { AreNodeCaches self.new.geometry self.new.caches }
-        ensures moved { B.moved bus.old bus.new }
+        ensures moved { Reaches B.moved bus.old bus.new }
+        ensures makes { (accesses : List Access) × B.moved bus.old accesses bus.new
+            × Makes (tags_of T.data_tag_of T.node_tag_of tags.old)
+            (λ used. HoldsTree (tags_of T.data_tag_of T.node_tag_of) self.old (B.history bus.old) tags.old)
+            (B.history bus.old) tags.old (B.history bus.new) tags.new accesses (result_err result) }
     {
         let geometry = self.nodes.geometry();
         if level == geometry.levels() {
@@ -474,7 +505,11 @@ impl Tree {
         ensures came { HoldsTree (tags_of T.data_tag_of T.node_tag_of) self.old (B.history bus.old) tags.old →
             tags.new.evidence ≡ None → OnOk result (NodeCame tags.old.made level index (B.history bus.old) (B.history bus.new)) }
         ensures kept { (other at : ℕ) → cached_node self.old other at ≢ None → cached_node self.new other at ≢ None }
-        ensures moved { B.moved bus.old bus.new }
+        ensures moved { Reaches B.moved bus.old bus.new }
+        ensures makes { (accesses : List Access) × B.moved bus.old accesses bus.new
+            × Makes (tags_of T.data_tag_of T.node_tag_of tags.old)
+            (λ used. HoldsTree (tags_of T.data_tag_of T.node_tag_of) self.old (B.history bus.old) tags.old)
+            (B.history bus.old) tags.old (B.history bus.new) tags.new accesses (result_err result) }
     {
         let tag = self.kept_tag(level, index);
         let block = read_kept(bus, tags, level, index, &tag)?;
@@ -518,7 +553,11 @@ impl Tree {
             (B.history bus.new).written (node_place level at) ≡ (B.history bus.old).written (node_place level at) }
         ensures quiet { tags.new.evidence ≡ tags.old.evidence }
         ensures reads { (B.history bus.new).reads ≡ (B.history bus.old).reads }
-        ensures moved { B.moved bus.old bus.new }
+        ensures moved { Reaches B.moved bus.old bus.new }
+        ensures makes { (accesses : List Access) × B.moved bus.old accesses bus.new
+            × Makes (tags_of T.data_tag_of T.node_tag_of tags.old)
+            (λ used. Unit {0})
+            (B.history bus.old) tags.old (B.history bus.new) tags.new accesses (want_of result) }
     {
         tags.reserve(1)?;
         let tag = write_node(bus, tags, level, index, block)?;
@@ -580,7 +619,12 @@ fn read_kept<B: Bus, T: Tagger>(
 
     ensures read { ReadsKept (tags_of T.data_tag_of T.node_tag_of) level index tag.now
         (B.history bus.old) tags.old (B.history bus.new) tags.new result }
-    ensures moved { B.moved bus.old bus.new }
+    ensures moved { Reaches B.moved bus.old bus.new }
+    ensures makes { (accesses : List Access) × B.moved bus.old accesses bus.new
+        × Makes (tags_of T.data_tag_of T.node_tag_of tags.old)
+        (λ used. IsKeptNode (tags_of T.data_tag_of T.node_tag_of tags.old) tags.old.made
+        (B.history bus.old).written level index tag.now)
+        (B.history bus.old) tags.old (B.history bus.new) tags.new accesses (result_err result) }
     ensures long { IfOk result (λ block. length block ≡ 64) }
 {
     if *tag == NO_TAG {

@@ -1,6 +1,12 @@
-use Rattle.std.proofs.Common.{◌≡◌, ◌≢◌, rules}
+use Rattle.std.proofs.Common.{◌≡◌, ◌≢◌, rules, []}
+use Rattle.bus_model.specs.Access.{reaches_none}
+use Rattle.std.specs.Result.{result_err}
+use Rattle.tag_engine.specs.TagEngine.{tags_of}
+use Rattle.checked_bus.proofs.Makes.{makes_not}
 use Rattle.bonsai_tree.specs.Node.{no_tag}
 use Rattle.bonsai_tree.proofs.KeptReads.{reads_made, reads_none}
+use Rattle.bonsai_tree.specs.KeptRead.{IsKeptNode}
+use Rattle.bonsai_tree.proofs.TreeMakes.{makes_kept}
 use Rattle.bonsai_tree.proofs.tree.read_kept.Goals as goal
 
 pub returns-clause-read : goal.returns-clause-read
@@ -15,3 +21,21 @@ pub returns-then-eq-clause-read : goal.returns-then-eq-clause-read
 returns-then-eq-clause-read g c =
     let none : c.args.tag.now ≡ no_tag = search rules in
     reads_none g.T.Tagger.data_tag_of g.T.Tagger.node_tag_of c.args.level c.args.index c.args.tag.now (g.B.Bus.history c.args.bus.now) c.args.tags.now none
+
+pub returns-then-eq-clause-moved : goal.returns-then-eq-clause-moved
+returns-then-eq-clause-moved g c =
+    (reaches_none g.B.Bus.moved g.met.B.Bus.unmoved) c.args.bus.now
+
+pub returns-then-eq-clause-makes : goal.returns-then-eq-clause-makes
+returns-then-eq-clause-makes g c =
+    ([], g.met.B.Bus.unmoved c.args.bus.now, makes_not (tags_of g.T.Tagger.data_tag_of g.T.Tagger.node_tag_of c.args.tags.now) (λ used. IsKeptNode (tags_of g.T.Tagger.data_tag_of g.T.Tagger.node_tag_of c.args.tags.now) c.args.tags.now.made (g.B.Bus.history c.args.bus.now).written c.args.level c.args.index c.args.tag.now) (g.B.Bus.history c.args.bus.now) c.args.tags.now)
+
+pub returns-clause-makes : goal.returns-clause-makes
+returns-clause-makes g c =
+    let some : c.args.tag.now ≢ no_tag = search rules in
+    let read = c.read_node.ensures.makes in (
+      read.0,
+      read.1,
+      makes_kept g.T.Tagger.data_tag_of g.T.Tagger.node_tag_of c.args.level c.args.index c.args.tag.now (g.B.Bus.history c.args.bus.now) (g.B.Bus.history c.read_node.new.bus) c.args.tags.now c.read_node.new.tags
+          read.0 (result_err c.read_node.result) some read.2.makes,
+    )

@@ -1,4 +1,4 @@
-use Rattle.std.proofs.Common.{◌≡◌, ◌≢◌, inl, inr, ◌+◌, ℕ, true, List, length, Option, Some, None, refl, ap, sym, ◌∙◌, subst, arith, rules}
+use Rattle.std.proofs.Common.{◌≡◌, ◌≢◌, inl, inr, ◌+◌, ℕ, true, List, length, Option, Some, None, refl, ap, sym, ◌∙◌, subst, arith, rules, [], ◌++◌}
 use Rattle.std.specs.Option.{option_map}
 use Rattle.std.specs.Result.{result_err}
 use Rattle.sec_base.specs.declared.stop.MemStop.{MemStop}
@@ -6,16 +6,20 @@ use Rattle.sec_base.specs.declared.stop.MemStop.TheVariants.{NoMemory}
 use Rattle.sec_base.proofs.Results.{was_none}
 use Rattle.cache_set.specs.declared.way.Way.{Way}
 use Rattle.cache_set.specs.Cache.{way_at}
+use Rattle.bus_model.specs.Access.{reaches_on, reaches_none}
 use Rattle.tag_engine.specs.TagEngine.{tags_of}
+use Rattle.checked_bus.specs.Makes.{Makes}
+use Rattle.checked_bus.proofs.Makes.{makes_not}
 use Rattle.bonsai_tree.specs.Climb.{Climbs, IsBlockOf, IsVictim, NoNode, WritesUp}
 use Rattle.bonsai_tree.specs.NodeCache.{AreNodeCaches, copy_of, node_way}
-use Rattle.bonsai_tree.specs.Tree.{EndsQuietly, TreeView}
+use Rattle.bonsai_tree.specs.Tree.{EndsQuietly, TreeView, HoldsTree}
 use Rattle.bonsai_tree.proofs.Climbs.{climbs_not, climbs_on, climbs_up, unmade_before}
 use Rattle.bonsai_tree.proofs.NodeCalls.{climbs_dropped, climbs_touched}
 use Rattle.bonsai_tree.proofs.Accesses.{present_first, present_second}
 use Rattle.bonsai_tree.proofs.Views.{all_as, geometry_as, not_held, others_as, root_as, same_as, tree_of}
 use Rattle.bonsai_tree.proofs.OutFor.{on_ok, out_came, out_kept, out_on, room_kept, room_made}
 use Rattle.bonsai_tree.proofs.WrittenBack.{up_as, up_climbed, up_same, up_victim, up_wider}
+use Rattle.bonsai_tree.proofs.TreeMakes.{makes_after, makes_climbed, makes_wrote}
 use Rattle.bonsai_tree.proofs.tree.Tree.+present.Goals as goal
 
 pub parent_present-returns-then-level-levels-clause-climbs : goal.parent_present-returns-then-level-levels-clause-climbs
@@ -133,23 +137,23 @@ present-returns-clause-few g t c =
 
 pub present-returns-clause-moved : goal.present-returns-clause-moved
 present-returns-clause-moved g t c =
-    g.met.B.Bus.moved_on c.args.bus.now c.make_room.new.bus c.read_in.new.bus c.in_ok-make_room.ensures.moved
-    (g.met.B.Bus.moved_on c.make_room.new.bus c.parent_present.new.bus c.read_in.new.bus c.in_ok-parent_present.ensures.moved c.read_in.ensures.moved)
+    (reaches_on g.B.Bus.moved g.met.B.Bus.moved_on) c.args.bus.now c.make_room.new.bus c.read_in.new.bus c.in_ok-make_room.ensures.moved
+    ((reaches_on g.B.Bus.moved g.met.B.Bus.moved_on) c.make_room.new.bus c.parent_present.new.bus c.read_in.new.bus c.in_ok-parent_present.ensures.moved c.read_in.ensures.moved)
 
 pub present-returns-in_err-parent_present-clause-moved : goal.present-returns-in_err-parent_present-clause-moved
 present-returns-in_err-parent_present-clause-moved g t c =
-    g.met.B.Bus.moved_on c.args.bus.now c.make_room.new.bus c.parent_present.new.bus c.in_ok-make_room.ensures.moved c.in_err-parent_present.ensures.moved
+    (reaches_on g.B.Bus.moved g.met.B.Bus.moved_on) c.args.bus.now c.make_room.new.bus c.parent_present.new.bus c.in_ok-make_room.ensures.moved c.in_err-parent_present.ensures.moved
 
 pub write_back-returns-then-not-victim-clause-climbs : goal.write_back-returns-then-not-victim-clause-climbs
 write_back-returns-then-not-victim-clause-climbs g t c = climbs_not g.T.Tagger.data_tag_of g.T.Tagger.node_tag_of c.args.level c.args.self.now (g.B.Bus.history c.args.bus.now) c.args.tags.now
 
 pub write_back-returns-in_err-write_below-clause-moved : goal.write_back-returns-in_err-write_below-clause-moved
 write_back-returns-in_err-write_below-clause-moved g t c =
-    g.met.B.Bus.moved_on c.args.bus.now c.parent_present.new.bus c.write_below.new.bus c.in_ok-parent_present.ensures.moved c.in_err-write_below.ensures.moved
+    (reaches_on g.B.Bus.moved g.met.B.Bus.moved_on) c.args.bus.now c.parent_present.new.bus c.write_below.new.bus c.in_ok-parent_present.ensures.moved c.in_err-write_below.ensures.moved
 
 pub write_back-returns-clause-moved : goal.write_back-returns-clause-moved
 write_back-returns-clause-moved g t c =
-    g.met.B.Bus.moved_on c.args.bus.now c.parent_present.new.bus c.write_below.new.bus c.in_ok-parent_present.ensures.moved c.in_ok-write_below.ensures.moved
+    (reaches_on g.B.Bus.moved g.met.B.Bus.moved_on) c.args.bus.now c.parent_present.new.bus c.write_below.new.bus c.in_ok-parent_present.ensures.moved c.in_ok-write_below.ensures.moved
 
 pub make_room-returns-clause-climbs : goal.make_room-returns-clause-climbs
 make_room-returns-clause-climbs g t c =
@@ -395,3 +399,148 @@ present-returns-clause-out_for g t c = λ holds quiet.
     room.moves.reads parent.moves.reads c.read_in.ensures.climbs.moves.reads unmade
     (λ other at none. unmade other at (unmade_before c.make_room.new.tags.made c.parent_present.new.tags.made parent.moves.more parent.moves.made other at none))
     (c.in_ok-make_room.ensures.out_for holds_touched quiet_room) (c.in_ok-parent_present.ensures.out_for holds_room quiet_parent) c.read_in.ensures.kept)
+
+-- No access was made
+
+pub present-returns-then-touch-clause-moved : goal.present-returns-then-touch-clause-moved
+present-returns-then-touch-clause-moved g t c =
+    (reaches_none g.B.Bus.moved g.met.B.Bus.unmoved) c.args.bus.now
+
+pub make_room-returns-in_default-clause-moved : goal.make_room-returns-in_default-clause-moved
+make_room-returns-in_default-clause-moved g t c =
+    (reaches_none g.B.Bus.moved g.met.B.Bus.unmoved) c.args.bus.now
+
+pub write_back-returns-then-not-victim-clause-moved : goal.write_back-returns-then-not-victim-clause-moved
+write_back-returns-then-not-victim-clause-moved g t c =
+    (reaches_none g.B.Bus.moved g.met.B.Bus.unmoved) c.args.bus.now
+
+pub parent_present-returns-then-level-levels-clause-moved : goal.parent_present-returns-then-level-levels-clause-moved
+parent_present-returns-then-level-levels-clause-moved g t c =
+    (reaches_none g.B.Bus.moved g.met.B.Bus.unmoved) c.args.bus.now
+
+-- Which accesses they make
+
+pub parent_present-returns-then-level-levels-clause-makes : goal.parent_present-returns-then-level-levels-clause-makes
+parent_present-returns-then-level-levels-clause-makes g t c =
+    ([], g.met.B.Bus.unmoved c.args.bus.now, makes_not (tags_of g.T.Tagger.data_tag_of g.T.Tagger.node_tag_of c.args.tags.now) (λ used. HoldsTree (tags_of g.T.Tagger.data_tag_of g.T.Tagger.node_tag_of) c.args.self.now (g.B.Bus.history c.args.bus.now) c.args.tags.now) (g.B.Bus.history c.args.bus.now) c.args.tags.now)
+
+pub write_back-returns-then-not-victim-clause-makes : goal.write_back-returns-then-not-victim-clause-makes
+write_back-returns-then-not-victim-clause-makes g t c =
+    ([], g.met.B.Bus.unmoved c.args.bus.now, makes_not (tags_of g.T.Tagger.data_tag_of g.T.Tagger.node_tag_of c.args.tags.now) (λ used. HoldsTree (tags_of g.T.Tagger.data_tag_of g.T.Tagger.node_tag_of) c.args.self.now (g.B.Bus.history c.args.bus.now) c.args.tags.now) (g.B.Bus.history c.args.bus.now) c.args.tags.now)
+
+pub make_room-returns-in_default-clause-makes : goal.make_room-returns-in_default-clause-makes
+make_room-returns-in_default-clause-makes g t c =
+    ([], g.met.B.Bus.unmoved c.args.bus.now, makes_not (tags_of g.T.Tagger.data_tag_of g.T.Tagger.node_tag_of c.args.tags.now) (λ used. HoldsTree (tags_of g.T.Tagger.data_tag_of g.T.Tagger.node_tag_of) c.args.self.now (g.B.Bus.history c.args.bus.now) c.args.tags.now) (g.B.Bus.history c.args.bus.now) c.args.tags.now)
+
+pub present-returns-then-touch-clause-makes : goal.present-returns-then-touch-clause-makes
+present-returns-then-touch-clause-makes g t c =
+    ([], g.met.B.Bus.unmoved c.args.bus.now, makes_not (tags_of g.T.Tagger.data_tag_of g.T.Tagger.node_tag_of c.args.tags.now) (λ used. HoldsTree (tags_of g.T.Tagger.data_tag_of g.T.Tagger.node_tag_of) c.args.self.now (g.B.Bus.history c.args.bus.now) c.args.tags.now) (g.B.Bus.history c.args.bus.now) c.args.tags.now)
+
+pub write_back-returns-in_err-parent_present-clause-makes : goal.write_back-returns-in_err-parent_present-clause-makes
+write_back-returns-in_err-parent_present-clause-makes g t c =
+    let stop : result_err c.from_residual.result ≡ Some c.in_err-parent_present.field-0.0 = search rules in
+    let climbed = c.in_err-parent_present.ensures.makes in (
+      climbed.0,
+      climbed.1,
+      subst (λ (s : Option MemStop). Makes (tags_of g.T.Tagger.data_tag_of g.T.Tagger.node_tag_of c.args.tags.now) (λ used. HoldsTree (tags_of g.T.Tagger.data_tag_of g.T.Tagger.node_tag_of) c.args.self.now (g.B.Bus.history c.args.bus.now) c.args.tags.now)
+          (g.B.Bus.history c.args.bus.now) c.args.tags.now (g.B.Bus.history c.parent_present.new.bus) c.parent_present.new.tags climbed.0 s) (sym stop)
+          (climbed.2),
+    )
+
+pub write_back-returns-in_err-write_below-clause-makes : goal.write_back-returns-in_err-write_below-clause-makes
+write_back-returns-in_err-write_below-clause-makes g t c =
+    let stop : result_err c.from_residual-in_err-write_below.result ≡ Some NoMemory = search rules in
+    let climbed = c.in_ok-parent_present.ensures.makes in
+    let wrote = c.in_err-write_below.ensures.makes in (
+      climbed.0 ++ wrote.0,
+      g.met.B.Bus.moved_on c.args.bus.now c.parent_present.new.bus c.write_below.new.bus climbed.0 wrote.0 climbed.1 wrote.1,
+      subst (λ (s : Option MemStop). Makes (tags_of g.T.Tagger.data_tag_of g.T.Tagger.node_tag_of c.args.tags.now) (λ used. HoldsTree (tags_of g.T.Tagger.data_tag_of g.T.Tagger.node_tag_of) c.args.self.now (g.B.Bus.history c.args.bus.now) c.args.tags.now)
+          (g.B.Bus.history c.args.bus.now) c.args.tags.now (g.B.Bus.history c.write_below.new.bus) c.write_below.new.tags (climbed.0 ++ wrote.0) s) (sym stop)
+          (makes_wrote g.T.Tagger.data_tag_of g.T.Tagger.node_tag_of c.args.self.now (g.B.Bus.history c.args.bus.now) (g.B.Bus.history c.parent_present.new.bus) (g.B.Bus.history c.write_below.new.bus) c.args.tags.now c.parent_present.new.tags c.write_below.new.tags
+          climbed.0 wrote.0 (Some NoMemory) climbed.2 wrote.2),
+    )
+
+pub write_back-returns-clause-makes : goal.write_back-returns-clause-makes
+write_back-returns-clause-makes g t c =
+    let climbed = c.in_ok-parent_present.ensures.makes in
+    let wrote = c.in_ok-write_below.ensures.makes in (
+      climbed.0 ++ wrote.0,
+      g.met.B.Bus.moved_on c.args.bus.now c.parent_present.new.bus c.write_below.new.bus climbed.0 wrote.0 climbed.1 wrote.1,
+      makes_wrote g.T.Tagger.data_tag_of g.T.Tagger.node_tag_of c.args.self.now (g.B.Bus.history c.args.bus.now) (g.B.Bus.history c.parent_present.new.bus) (g.B.Bus.history c.write_below.new.bus) c.args.tags.now c.parent_present.new.tags c.write_below.new.tags
+          climbed.0 wrote.0 None climbed.2 wrote.2,
+    )
+
+pub make_room-returns-in_err-write_back-clause-makes : goal.make_room-returns-in_err-write_back-clause-makes
+make_room-returns-in_err-write_back-clause-makes g t c =
+    let stop : result_err c.from_residual.result ≡ Some c.in_err-write_back.field-0.0 = search rules in
+    let wrote = c.in_err-write_back.ensures.makes in (
+      wrote.0,
+      wrote.1,
+      subst (λ (s : Option MemStop). Makes (tags_of g.T.Tagger.data_tag_of g.T.Tagger.node_tag_of c.args.tags.now) (λ used. HoldsTree (tags_of g.T.Tagger.data_tag_of g.T.Tagger.node_tag_of) c.args.self.now (g.B.Bus.history c.args.bus.now) c.args.tags.now)
+          (g.B.Bus.history c.args.bus.now) c.args.tags.now (g.B.Bus.history c.write_back.new.bus) c.write_back.new.tags wrote.0 s) (sym stop)
+          (wrote.2),
+    )
+
+pub present-returns-in_err-make_room-clause-makes : goal.present-returns-in_err-make_room-clause-makes
+present-returns-in_err-make_room-clause-makes g t c =
+    let touched =
+    climbs_touched g.T.Tagger.data_tag_of g.T.Tagger.node_tag_of c.args.level c.args.self.now (tree_of c.self.inside.root c.touch.new.self) (g.B.Bus.history c.args.bus.now) c.args.tags.now
+    (geometry_as c.args.self.now c.self.inside.root c.self.inside.nodes c.touch.new.self c.self.view_is c.if-touch.ensures.geometry) (root_as c.args.self.now c.self.inside.root c.self.inside.nodes c.touch.new.self c.self.view_is) c.if-touch.ensures.nodes
+    (others_as c.args.self.now c.self.inside.root c.self.inside.nodes c.touch.new.self c.self.view_is c.args.level c.if-touch.ensures.others) (all_as c.args.self.now c.self.inside.root c.self.inside.nodes c.touch.new.self c.self.view_is c.if-touch.ensures.same) in
+    let stop : result_err c.from_residual.result ≡ Some c.in_err-make_room.field-0.0 = search rules in
+    let room = c.in_err-make_room.ensures.makes in (
+      room.0,
+      room.1,
+      subst (λ (s : Option MemStop). Makes (tags_of g.T.Tagger.data_tag_of g.T.Tagger.node_tag_of c.args.tags.now) (λ used. HoldsTree (tags_of g.T.Tagger.data_tag_of g.T.Tagger.node_tag_of) c.args.self.now (g.B.Bus.history c.args.bus.now) c.args.tags.now)
+          (g.B.Bus.history c.args.bus.now) c.args.tags.now (g.B.Bus.history c.make_room.new.bus) c.make_room.new.tags room.0 s) (sym stop)
+          (makes_after g.T.Tagger.data_tag_of g.T.Tagger.node_tag_of c.args.level c.args.self.now (tree_of c.self.inside.root c.touch.new.self) (g.B.Bus.history c.args.bus.now) (g.B.Bus.history c.make_room.new.bus) c.args.tags.now c.make_room.new.tags room.0 (Some c.in_err-make_room.field-0.0) touched
+          (room.2)),
+    )
+
+pub present-returns-in_err-parent_present-clause-makes : goal.present-returns-in_err-parent_present-clause-makes
+present-returns-in_err-parent_present-clause-makes g t c =
+    let touched =
+    climbs_touched g.T.Tagger.data_tag_of g.T.Tagger.node_tag_of c.args.level c.args.self.now (tree_of c.self.inside.root c.touch.new.self) (g.B.Bus.history c.args.bus.now) c.args.tags.now
+    (geometry_as c.args.self.now c.self.inside.root c.self.inside.nodes c.touch.new.self c.self.view_is c.if-touch.ensures.geometry) (root_as c.args.self.now c.self.inside.root c.self.inside.nodes c.touch.new.self c.self.view_is) c.if-touch.ensures.nodes
+    (others_as c.args.self.now c.self.inside.root c.self.inside.nodes c.touch.new.self c.self.view_is c.args.level c.if-touch.ensures.others) (all_as c.args.self.now c.self.inside.root c.self.inside.nodes c.touch.new.self c.self.view_is c.if-touch.ensures.same) in
+    let stop : result_err c.from_residual-in_err-parent_present.result ≡ Some c.in_err-parent_present.field-0.0 = search rules in
+    let room = c.in_ok-make_room.ensures.makes in
+    let climbed = c.in_err-parent_present.ensures.makes in (
+      room.0 ++ climbed.0,
+      g.met.B.Bus.moved_on c.args.bus.now c.make_room.new.bus c.parent_present.new.bus room.0 climbed.0 room.1 climbed.1,
+      subst (λ (s : Option MemStop). Makes (tags_of g.T.Tagger.data_tag_of g.T.Tagger.node_tag_of c.args.tags.now) (λ used. HoldsTree (tags_of g.T.Tagger.data_tag_of g.T.Tagger.node_tag_of) c.args.self.now (g.B.Bus.history c.args.bus.now) c.args.tags.now)
+          (g.B.Bus.history c.args.bus.now) c.args.tags.now (g.B.Bus.history c.parent_present.new.bus) c.parent_present.new.tags (room.0 ++ climbed.0) s) (sym stop)
+          (makes_after g.T.Tagger.data_tag_of g.T.Tagger.node_tag_of c.args.level c.args.self.now (tree_of c.self.inside.root c.touch.new.self) (g.B.Bus.history c.args.bus.now) (g.B.Bus.history c.parent_present.new.bus) c.args.tags.now c.parent_present.new.tags (room.0 ++ climbed.0) (Some c.in_err-parent_present.field-0.0) touched
+          (makes_climbed g.T.Tagger.data_tag_of g.T.Tagger.node_tag_of c.args.level (tree_of c.self.inside.root c.touch.new.self) c.make_room.new.self (g.B.Bus.history c.args.bus.now) (g.B.Bus.history c.make_room.new.bus) (g.B.Bus.history c.parent_present.new.bus) c.args.tags.now c.make_room.new.tags c.parent_present.new.tags
+          room.0 climbed.0 (Some c.in_err-parent_present.field-0.0) c.in_ok-make_room.ensures.climbs
+          room.2
+          climbed.2)),
+    )
+
+pub present-returns-clause-makes : goal.present-returns-clause-makes
+present-returns-clause-makes g t c =
+    let touched =
+    climbs_touched g.T.Tagger.data_tag_of g.T.Tagger.node_tag_of c.args.level c.args.self.now (tree_of c.self.inside.root c.touch.new.self) (g.B.Bus.history c.args.bus.now) c.args.tags.now
+    (geometry_as c.args.self.now c.self.inside.root c.self.inside.nodes c.touch.new.self c.self.view_is c.if-touch.ensures.geometry) (root_as c.args.self.now c.self.inside.root c.self.inside.nodes c.touch.new.self c.self.view_is) c.if-touch.ensures.nodes
+    (others_as c.args.self.now c.self.inside.root c.self.inside.nodes c.touch.new.self c.self.view_is c.args.level c.if-touch.ensures.others) (all_as c.args.self.now c.self.inside.root c.self.inside.nodes c.touch.new.self c.self.view_is c.if-touch.ensures.same) in
+    let room = c.in_ok-make_room.ensures.makes in
+    let climbed = c.in_ok-parent_present.ensures.makes in
+    let read = c.read_in.ensures.makes in (
+      room.0 ++ (climbed.0 ++ read.0),
+      g.met.B.Bus.moved_on c.args.bus.now c.make_room.new.bus c.read_in.new.bus room.0 (climbed.0 ++ read.0) room.1
+          (g.met.B.Bus.moved_on c.make_room.new.bus c.parent_present.new.bus c.read_in.new.bus climbed.0 read.0 climbed.1 read.1),
+      makes_after g.T.Tagger.data_tag_of g.T.Tagger.node_tag_of c.args.level c.args.self.now (tree_of c.self.inside.root c.touch.new.self) (g.B.Bus.history c.args.bus.now) (g.B.Bus.history c.read_in.new.bus) c.args.tags.now c.read_in.new.tags (room.0 ++ (climbed.0 ++ read.0)) (result_err c.read_in.result) touched
+          (makes_climbed g.T.Tagger.data_tag_of g.T.Tagger.node_tag_of c.args.level (tree_of c.self.inside.root c.touch.new.self) c.make_room.new.self (g.B.Bus.history c.args.bus.now) (g.B.Bus.history c.make_room.new.bus) (g.B.Bus.history c.read_in.new.bus) c.args.tags.now c.make_room.new.tags c.read_in.new.tags
+          room.0 (climbed.0 ++ read.0) (result_err c.read_in.result) c.in_ok-make_room.ensures.climbs
+          room.2
+          (makes_climbed g.T.Tagger.data_tag_of g.T.Tagger.node_tag_of (c.args.level + 1) c.make_room.new.self c.parent_present.new.self (g.B.Bus.history c.make_room.new.bus) (g.B.Bus.history c.parent_present.new.bus) (g.B.Bus.history c.read_in.new.bus) c.make_room.new.tags c.parent_present.new.tags c.read_in.new.tags
+          climbed.0 read.0 (result_err c.read_in.result) c.in_ok-parent_present.ensures.climbs
+          climbed.2
+          read.2)),
+    )
+
+pub make_room-returns-clause-makes : goal.make_room-returns-clause-makes
+make_room-returns-clause-makes g t c = c.in_ok-write_back.ensures.makes
+
+pub parent_present-returns-clause-makes : goal.parent_present-returns-clause-makes
+parent_present-returns-clause-makes g t c = c.present.ensures.makes

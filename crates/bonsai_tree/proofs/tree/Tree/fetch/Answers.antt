@@ -1,4 +1,4 @@
-use Rattle.std.proofs.Common.{◌≡◌, ◌+◌, ◌/◌, ◌≤◌, List, length, Option, Some, refl, ap, sym, ◌∙◌, subst, arith, rules}
+use Rattle.std.proofs.Common.{◌≡◌, ◌+◌, ◌/◌, ◌≤◌, List, length, Option, Some, refl, ap, sym, ◌∙◌, subst, arith, rules, ◌++◌}
 use Rattle.std.specs.Result.{result_err}
 use Rattle.sec_base.specs.Geometry.{GeometryView, IsNode, arity}
 use Rattle.sec_base.specs.declared.evidence.Evidence.TheVariants.{Collision}
@@ -11,15 +11,18 @@ use Rattle.bus_model.specs.BusHistory.{BusHistory}
 use Rattle.tag_engine.specs.TagEngine.{TagEngineView, tags_of}
 use Rattle.checked_bus.specs.Accesses.{WritesMessages}
 use Rattle.checked_bus.specs.Steps.{unwritten_in}
+use Rattle.checked_bus.specs.Makes.{Makes}
+use Rattle.bus_model.specs.Access.{reaches_on}
 use Rattle.bonsai_tree.specs.Climb.{Climbs, NoNode, WritesUp}
 use Rattle.bonsai_tree.specs.Node.{level_blocks}
-use Rattle.bonsai_tree.specs.Tree.{EndsQuietly, WritesBack, path_accesses}
+use Rattle.bonsai_tree.specs.Tree.{EndsQuietly, WritesBack, path_accesses, HoldsTree}
 use Rattle.bonsai_tree.proofs.Climbs.{unmade_before}
 use Rattle.bonsai_tree.proofs.Copies.{few_copies}
 use Rattle.bonsai_tree.proofs.OutFor.{out_kept, out_on}
 use Rattle.bonsai_tree.proofs.PathCalls.{climb_room, climb_writes, fetched, fetched_accepted, fetched_alone, fetched_block, fetched_by_tag, fetched_checked, fetched_found, fetched_pages, fetched_read, not_from_one, ok_of, page_node, path_more, stop_of_err}
 use Rattle.bonsai_tree.proofs.Views.{latest_cached}
 use Rattle.bonsai_tree.proofs.WrittenBack.{up_climbed, up_same}
+use Rattle.bonsai_tree.proofs.TreeMakes.{makes_climbed, makes_read}
 use Rattle.bonsai_tree.proofs.tree.Tree.fetch.Given.{Over}
 use Rattle.bonsai_tree.proofs.tree.Tree.fetch.Goals as goal
 
@@ -232,3 +235,35 @@ returns-clause-alone g c =
 
 pub returns-in_err-parent_present-clause-alone : goal.returns-in_err-parent_present-clause-alone
 returns-in_err-parent_present-clause-alone g c = λ other apart. c.in_err-parent_present.ensures.climbs.reads 0 other (omega arith)
+
+pub returns-in_err-parent_present-clause-makes : goal.returns-in_err-parent_present-clause-makes
+returns-in_err-parent_present-clause-makes g c =
+    let stop : result_err c.from_residual.result ≡ Some c.in_err-parent_present.field-0.0 = search rules in
+    let climbed = c.in_err-parent_present.ensures.makes in (
+      climbed.0,
+      climbed.1,
+      subst (λ (s : Option MemStop). Makes (tags_of g.T.Tagger.data_tag_of g.T.Tagger.node_tag_of c.args.tags.now) (λ used. HoldsTree (tags_of g.T.Tagger.data_tag_of g.T.Tagger.node_tag_of) c.args.self.now (g.B.Bus.history c.args.bus.now) c.args.tags.now)
+          (g.B.Bus.history c.args.bus.now) c.args.tags.now (g.B.Bus.history c.parent_present.new.bus) c.parent_present.new.tags climbed.0 s) (sym stop) climbed.2,
+    )
+
+pub returns-clause-makes : goal.returns-clause-makes
+returns-clause-makes g c =
+    let climbed = c.in_ok-parent_present.ensures.makes in
+    let read = c.read_kept.ensures.makes in (
+      climbed.0 ++ read.0,
+      g.met.B.Bus.moved_on c.args.bus.now c.parent_present.new.bus c.read_kept.new.bus climbed.0 read.0 climbed.1 read.1,
+      makes_climbed g.T.Tagger.data_tag_of g.T.Tagger.node_tag_of (0 + 1) c.args.self.now c.parent_present.new.self (g.B.Bus.history c.args.bus.now) (g.B.Bus.history c.parent_present.new.bus) (g.B.Bus.history c.read_kept.new.bus) c.args.tags.now c.parent_present.new.tags c.read_kept.new.tags
+          climbed.0 read.0 (result_err c.read_kept.result) c.in_ok-parent_present.ensures.climbs climbed.2
+          (makes_read g.T.Tagger.data_tag_of g.T.Tagger.node_tag_of c.parent_present.new.self 0 c.args.page c.kept_tag-tag.result (g.B.Bus.history c.parent_present.new.bus) (g.B.Bus.history c.read_kept.new.bus) c.parent_present.new.tags c.read_kept.new.tags
+          read.0 (result_err c.read_kept.result) (subst (λ (k : GeometryView). IsNode k 0 c.args.page) (sym c.in_ok-parent_present.ensures.climbs.geometry) (own_node g c)) (c.kept_tag-tag.ensures c.parent_present.new.tags.made) read.2),
+    )
+
+pub returns-in_err-parent_present-clause-room : goal.returns-in_err-parent_present-clause-room
+returns-in_err-parent_present-clause-room g c =
+    climb_room g.T.Tagger.data_tag_of g.T.Tagger.node_tag_of (0 + 1) (path_accesses c.args.self.now.geometry.levels) c.args.self.now c.parent_present.new.self (g.B.Bus.history c.args.bus.now) (g.B.Bus.history c.parent_present.new.bus) c.args.tags.now c.parent_present.new.tags
+    (Some c.in_err-parent_present.field-0.0) c.in_err-parent_present.ensures.climbs
+    (omega (arith, c.in_err-parent_present.ensures.few, path_more c.args.self.now.geometry.levels))
+
+pub returns-clause-moved : goal.returns-clause-moved
+returns-clause-moved g c =
+    reaches_on g.B.Bus.moved g.met.B.Bus.moved_on c.args.bus.now c.parent_present.new.bus c.read_kept.new.bus c.in_ok-parent_present.ensures.moved c.read_kept.ensures.moved

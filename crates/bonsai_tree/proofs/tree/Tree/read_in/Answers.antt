@@ -6,6 +6,7 @@ use Rattle.sec_base.proofs.Results.{was_none}
 use Rattle.sec_base.specs.declared.stop.MemStop.{MemStop}
 use Rattle.sec_base.specs.declared.stop.MemStop.TheVariants.{NoMemory}
 use Rattle.tag_engine.specs.TagEngine.{tags_of}
+use Rattle.checked_bus.specs.Makes.{Makes}
 use Rattle.bonsai_tree.specs.Climb.{Climbs, NoNode, WritesUp}
 use Rattle.bonsai_tree.specs.NodeCache.{AreNodeCaches, copy_of}
 use Rattle.bonsai_tree.specs.Tree.{EndsQuietly, HoldsTree, NodeCame, TreeView}
@@ -13,6 +14,7 @@ use Rattle.bonsai_tree.proofs.NodeCalls.{climbs_put, climbs_read, kept_node}
 use Rattle.bonsai_tree.proofs.OutFor.{kept_at}
 use Rattle.bonsai_tree.proofs.Views.{latest_cached, geometry_as, others_as, root_as, same_as, tree_of}
 use Rattle.bonsai_tree.proofs.WrittenBack.{up_put, up_same}
+use Rattle.bonsai_tree.proofs.TreeMakes.{makes_read}
 use Rattle.bonsai_tree.proofs.tree.Tree.read_in.Given.{Over}
 use Rattle.bonsai_tree.proofs.tree.Tree.read_in.Goals as goal
 
@@ -76,3 +78,25 @@ returns-clause-kept g c =
     kept_at c.args.level c.args.index c.args.self.now (tree_of c.self.inside.root c.put.new.self) (record { block = c.in_ok-block.block; changed = false })
     (ap (λ o. option_map copy_of o) c.put.ensures.put)
     (same_as c.args.self.now c.self.inside.root c.self.inside.nodes c.put.new.self c.self.view_is c.args.level c.args.index c.put.ensures.same)
+
+pub returns-in_err-block-clause-makes : goal.returns-in_err-block-clause-makes
+returns-in_err-block-clause-makes g c =
+    let why = c.in_err-block.field-0.0 in
+    let stop : result_err c.from_residual.result ≡ Some why = search rules in
+    let read = c.in_err-block.ensures.makes in (
+      read.0,
+      read.1,
+      subst (λ (s : Option MemStop). Makes (tags_of g.T.Tagger.data_tag_of g.T.Tagger.node_tag_of c.args.tags.now) (λ used. HoldsTree (tags_of g.T.Tagger.data_tag_of g.T.Tagger.node_tag_of) c.args.self.now (g.B.Bus.history c.args.bus.now) c.args.tags.now)
+          (g.B.Bus.history c.args.bus.now) c.args.tags.now (g.B.Bus.history c.read_kept.new.bus) c.read_kept.new.tags read.0 s) (sym stop)
+          (makes_read g.T.Tagger.data_tag_of g.T.Tagger.node_tag_of c.args.self.now c.args.level c.args.index c.kept_tag-tag.result (g.B.Bus.history c.args.bus.now) (g.B.Bus.history c.read_kept.new.bus) c.args.tags.now c.read_kept.new.tags
+          read.0 (Some why) c.requires.node (c.kept_tag-tag.ensures c.args.tags.now.made) read.2),
+    )
+
+pub returns-clause-makes : goal.returns-clause-makes
+returns-clause-makes g c =
+    let read = c.in_ok-block.ensures.makes in (
+      read.0,
+      read.1,
+      makes_read g.T.Tagger.data_tag_of g.T.Tagger.node_tag_of c.args.self.now c.args.level c.args.index c.kept_tag-tag.result (g.B.Bus.history c.args.bus.now) (g.B.Bus.history c.read_kept.new.bus) c.args.tags.now c.read_kept.new.tags
+          read.0 None c.requires.node (c.kept_tag-tag.ensures c.args.tags.now.made) read.2,
+    )

@@ -8,13 +8,15 @@ use Rattle.sec_base.specs.declared.place.Place.TheVariants.{Node as node_place}
 use Rattle.sec_base.specs.declared.stop.MemStop.{MemStop}
 use Rattle.sec_base.specs.declared.stop.MemStop.TheVariants.{Tampered, NoMemory}
 use Rattle.sec_base.proofs.Results.{stop_is, on_err, was_none}
+use Rattle.bus_model.specs.Access.{reaches_on}
 use Rattle.bus_model.specs.BusHistory.{BusHistory}
 use Rattle.tag_engine.specs.TagEngine.{TagEngineView, tags_of}
 use Rattle.checked_bus.specs.Accesses.{WritesMessages}
 use Rattle.checked_bus.specs.Steps.{IsAccounted, unwritten_in}
+use Rattle.checked_bus.specs.Makes.{Makes}
 use Rattle.bonsai_tree.specs.Climb.{Climbs, IsBlockOf}
 use Rattle.bonsai_tree.specs.Node.{level_blocks}
-use Rattle.bonsai_tree.specs.Tree.{EndsQuietly, IsMarked, WritesBack, path_accesses}
+use Rattle.bonsai_tree.specs.Tree.{EndsQuietly, IsMarked, WritesBack, path_accesses, HoldsTree}
 use Rattle.bonsai_tree.proofs.Climbs.{climbs_on, climbs_up, unmade_before}
 use Rattle.bonsai_tree.proofs.Copies.{few_copies}
 use Rattle.bonsai_tree.proofs.LevelBlocks.{blocks_after}
@@ -22,6 +24,7 @@ use Rattle.bonsai_tree.proofs.OutFor.{out_kept, out_on}
 use Rattle.bonsai_tree.proofs.PathCalls.{climb_room, climb_writes, page_node, path_more, stop_of_err, updated_read}
 use Rattle.bonsai_tree.proofs.Views.{latest_cached}
 use Rattle.bonsai_tree.proofs.WrittenBack.{up_climbed}
+use Rattle.bonsai_tree.proofs.TreeMakes.{makes_wrote}
 use Rattle.bonsai_tree.proofs.tree.Tree.update.Given.{Over}
 use Rattle.bonsai_tree.proofs.tree.Tree.update.Goals as goal
 
@@ -119,7 +122,7 @@ returns-in_err-write_below-clause-slots g c =
 
 pub returns-in_err-write_below-clause-moved : goal.returns-in_err-write_below-clause-moved
 returns-in_err-write_below-clause-moved g c =
-    g.met.B.Bus.moved_on c.args.bus.now c.parent_present.new.bus c.write_below.new.bus c.in_ok-parent_present.ensures.moved c.in_err-write_below.ensures.moved
+    (reaches_on g.B.Bus.moved g.met.B.Bus.moved_on) c.args.bus.now c.parent_present.new.bus c.write_below.new.bus c.in_ok-parent_present.ensures.moved c.in_err-write_below.ensures.moved
 
 pub returns-in_err-write_below-clause-geometry : goal.returns-in_err-write_below-clause-geometry
 returns-in_err-write_below-clause-geometry g c =
@@ -197,7 +200,7 @@ returns-clause-slots g c =
 
 pub returns-clause-moved : goal.returns-clause-moved
 returns-clause-moved g c =
-    g.met.B.Bus.moved_on c.args.bus.now c.parent_present.new.bus c.write_below.new.bus c.in_ok-parent_present.ensures.moved c.in_ok-write_below.ensures.moved
+    (reaches_on g.B.Bus.moved g.met.B.Bus.moved_on) c.args.bus.now c.parent_present.new.bus c.write_below.new.bus c.in_ok-parent_present.ensures.moved c.in_ok-write_below.ensures.moved
 
 pub returns-clause-geometry : goal.returns-clause-geometry
 returns-clause-geometry g c =
@@ -395,3 +398,42 @@ returns-in_err-write_below-clause-no_block_read g c = λ other.
 
 pub returns-in_err-parent_present-clause-no_block_read : goal.returns-in_err-parent_present-clause-no_block_read
 returns-in_err-parent_present-clause-no_block_read g c = λ other. c.in_err-parent_present.ensures.climbs.reads 0 other (omega arith)
+
+pub returns-in_err-parent_present-clause-makes : goal.returns-in_err-parent_present-clause-makes
+returns-in_err-parent_present-clause-makes g c =
+    let stop : result_err c.from_residual.result ≡ Some c.in_err-parent_present.field-0.0 = search rules in
+    let climbed = c.in_err-parent_present.ensures.makes in (
+      climbed.0,
+      climbed.1,
+      subst (λ (s : Option MemStop). Makes (tags_of g.T.Tagger.data_tag_of g.T.Tagger.node_tag_of c.args.tags.now) (λ used. HoldsTree (tags_of g.T.Tagger.data_tag_of g.T.Tagger.node_tag_of) c.args.self.now (g.B.Bus.history c.args.bus.now) c.args.tags.now)
+          (g.B.Bus.history c.args.bus.now) c.args.tags.now (g.B.Bus.history c.parent_present.new.bus) c.parent_present.new.tags climbed.0 s) (sym stop) climbed.2,
+    )
+
+pub returns-in_err-write_below-clause-makes : goal.returns-in_err-write_below-clause-makes
+returns-in_err-write_below-clause-makes g c =
+    let stop : result_err c.from_residual-in_err-write_below.result ≡ Some NoMemory = search rules in
+    let climbed = c.in_ok-parent_present.ensures.makes in
+    let wrote = c.in_err-write_below.ensures.makes in (
+      climbed.0 ++ wrote.0,
+      g.met.B.Bus.moved_on c.args.bus.now c.parent_present.new.bus c.write_below.new.bus climbed.0 wrote.0 climbed.1 wrote.1,
+      subst (λ (s : Option MemStop). Makes (tags_of g.T.Tagger.data_tag_of g.T.Tagger.node_tag_of c.args.tags.now) (λ used. HoldsTree (tags_of g.T.Tagger.data_tag_of g.T.Tagger.node_tag_of) c.args.self.now (g.B.Bus.history c.args.bus.now) c.args.tags.now)
+          (g.B.Bus.history c.args.bus.now) c.args.tags.now (g.B.Bus.history c.write_below.new.bus) c.write_below.new.tags (climbed.0 ++ wrote.0) s) (sym stop)
+          (makes_wrote g.T.Tagger.data_tag_of g.T.Tagger.node_tag_of c.args.self.now (g.B.Bus.history c.args.bus.now) (g.B.Bus.history c.parent_present.new.bus) (g.B.Bus.history c.write_below.new.bus) c.args.tags.now c.parent_present.new.tags c.write_below.new.tags
+          climbed.0 wrote.0 (Some NoMemory) climbed.2 wrote.2),
+    )
+
+pub returns-clause-makes : goal.returns-clause-makes
+returns-clause-makes g c =
+    let climbed = c.in_ok-parent_present.ensures.makes in
+    let wrote = c.in_ok-write_below.ensures.makes in (
+      climbed.0 ++ wrote.0,
+      g.met.B.Bus.moved_on c.args.bus.now c.parent_present.new.bus c.write_below.new.bus climbed.0 wrote.0 climbed.1 wrote.1,
+      makes_wrote g.T.Tagger.data_tag_of g.T.Tagger.node_tag_of c.args.self.now (g.B.Bus.history c.args.bus.now) (g.B.Bus.history c.parent_present.new.bus) (g.B.Bus.history c.write_below.new.bus) c.args.tags.now c.parent_present.new.tags c.write_below.new.tags
+          climbed.0 wrote.0 None climbed.2 wrote.2,
+    )
+
+pub returns-in_err-parent_present-clause-room : goal.returns-in_err-parent_present-clause-room
+returns-in_err-parent_present-clause-room g c =
+    climb_room g.T.Tagger.data_tag_of g.T.Tagger.node_tag_of (0 + 1) (path_accesses c.args.self.now.geometry.levels) c.args.self.now c.parent_present.new.self (g.B.Bus.history c.args.bus.now) (g.B.Bus.history c.parent_present.new.bus) c.args.tags.now c.parent_present.new.tags
+    (Some c.in_err-parent_present.field-0.0) c.in_err-parent_present.ensures.climbs
+    (omega (arith, c.in_err-parent_present.ensures.few, path_more c.args.self.now.geometry.levels))

@@ -1,4 +1,4 @@
-use Rattle.std.proofs.Common.{◌≡◌, inl, inr, ◌+◌, ◌/◌, ℕ, List, true, [], Option, Some, None, refl, ap, sym, ◌∙◌, subst, arith, rules}
+use Rattle.std.proofs.Common.{◌≡◌, inl, inr, ◌+◌, ◌/◌, ℕ, List, true, [], Option, Some, None, refl, ap, sym, ◌∙◌, subst, arith, rules, ◌∷◌}
 use Rattle.std.specs.Option.{option_map}
 use Rattle.tag_engine.proofs.Marks.{engine_tag_fits}
 use Rattle.sec_base.specs.declared.message.Message.TheVariants.{Node}
@@ -9,6 +9,8 @@ use Rattle.sec_base.specs.declared.stop.MemStop.TheVariants.{NoMemory}
 use Rattle.sec_base.proofs.Results.{on_err}
 use Rattle.bus_model.specs.BusHistory.{BusHistory}
 use Rattle.tag_engine.specs.TagEngine.{TagEngineView, tags_of}
+use Rattle.bus_model.specs.Access.{reaches_none, Access}
+use Rattle.checked_bus.specs.Makes.{Makes, access_of}
 use Rattle.bonsai_tree.specs.Climb.{Climbs, IsBlockOf, WritesUp}
 use Rattle.bonsai_tree.specs.Node.{CachedNode, with_tag}
 use Rattle.bonsai_tree.specs.NodeCache.{copy_of}
@@ -19,6 +21,7 @@ use Rattle.bonsai_tree.proofs.NodeWrites.{NodeWritten, own, written_not, written
 use Rattle.bonsai_tree.proofs.Puts.{PutsTag}
 use Rattle.bonsai_tree.proofs.OutFor.{kept_at}
 use Rattle.bonsai_tree.proofs.WrittenBack.{up_made, up_same}
+use Rattle.bonsai_tree.proofs.TreeMakes.{makes_refused, makes_taken}
 use Rattle.bonsai_tree.proofs.tree.Tree.write_below.Given.{Over}
 use Rattle.bonsai_tree.proofs.tree.Tree.write_below.Goals as goal
 
@@ -187,3 +190,38 @@ returns-clause-reads g c = c.in_ok-tag.ensures.once.reads
 
 pub returns-in_err-tag-clause-reads : goal.returns-in_err-tag-clause-reads
 returns-in_err-tag-clause-reads g c = ap (λ (history : BusHistory). history.reads) c.in_err-tag.ensures.err
+
+pub returns-in_err-reserve-clause-moved : goal.returns-in_err-reserve-clause-moved
+returns-in_err-reserve-clause-moved g c =
+    (reaches_none g.B.Bus.moved g.met.B.Bus.unmoved) c.args.bus.now
+
+pub returns-in_err-reserve-clause-makes : goal.returns-in_err-reserve-clause-makes
+returns-in_err-reserve-clause-makes g c =
+    let stop : want_of c.from_residual.result ≡ Some NoMemory = search rules in (
+      [],
+      g.met.B.Bus.unmoved c.args.bus.now,
+      subst (λ (s : Option MemStop). Makes (tags_of g.T.Tagger.data_tag_of g.T.Tagger.node_tag_of c.args.tags.now) (λ used. Unit {0}) (g.B.Bus.history c.args.bus.now) c.args.tags.now (g.B.Bus.history c.args.bus.now) c.reserve.new.self [] s) (sym stop)
+          (subst (λ (e : TagEngineView g.row.T.Denot). Makes (tags_of g.T.Tagger.data_tag_of g.T.Tagger.node_tag_of c.args.tags.now) (λ used. Unit {0}) (g.B.Bus.history c.args.bus.now) c.args.tags.now (g.B.Bus.history c.args.bus.now) e [] (Some NoMemory))
+          (sym c.in_err-reserve.ensures.refused) (makes_refused (tags_of g.T.Tagger.data_tag_of g.T.Tagger.node_tag_of c.args.tags.now) (λ used. Unit {0}) (g.B.Bus.history c.args.bus.now) c.args.tags.now)),
+    )
+
+pub returns-in_err-tag-clause-makes : goal.returns-in_err-tag-clause-makes
+returns-in_err-tag-clause-makes g c =
+    let stop : want_of c.from_residual-in_err-tag.result ≡ Some NoMemory = search rules in
+    let wrote = c.in_err-tag.ensures.makes in (
+      [],
+      wrote.0,
+      subst (λ (s : Option MemStop). Makes (tags_of g.T.Tagger.data_tag_of g.T.Tagger.node_tag_of c.args.tags.now) (λ used. Unit {0}) (g.B.Bus.history c.args.bus.now) c.args.tags.now (g.B.Bus.history c.write_node.new.bus) c.write_node.new.tags [] s) (sym stop)
+          (makes_taken g.T.Tagger.data_tag_of g.T.Tagger.node_tag_of (λ used. Unit {0}) (g.B.Bus.history c.args.bus.now) (g.B.Bus.history c.write_node.new.bus) c.args.tags.now c.reserve.new.self c.write_node.new.tags
+          [] (Some NoMemory) (Node c.args.level c.args.index c.args.block.now) c.in_ok-reserve.ensures.taken c.in_err-tag.ensures.made wrote.1),
+    )
+
+pub returns-clause-makes : goal.returns-clause-makes
+returns-clause-makes g c =
+    let wrote = c.in_ok-tag.ensures.makes in
+    let write : Access = access_of (tags_of g.T.Tagger.data_tag_of g.T.Tagger.node_tag_of c.reserve.new.self) (Node c.args.level c.args.index c.args.block.now) in (
+      write ∷ [],
+      wrote.0,
+      makes_taken g.T.Tagger.data_tag_of g.T.Tagger.node_tag_of (λ used. Unit {0}) (g.B.Bus.history c.args.bus.now) (g.B.Bus.history c.write_node.new.bus) c.args.tags.now c.reserve.new.self c.write_node.new.tags
+          (write ∷ []) None (Node c.args.level c.args.index c.args.block.now) c.in_ok-reserve.ensures.taken c.in_ok-tag.ensures.made wrote.1,
+    )
