@@ -3,6 +3,7 @@
 
 ghost use Rattle.std.specs.Prelude.{◌≡◌};
 ghost use Rattle.sec_base.specs.Geometry.{memory_size};
+ghost use Rattle.bus_model.specs.Access.{Reaches};
 ghost use Rattle.bus_model.specs.BusHistory.{NothingWritten};
 ghost use Rattle.tag_engine.specs.Tag.{engine_tag};
 ghost use Rattle.chip_run.specs.Run.{RunsProtected, run_terms};
@@ -46,7 +47,7 @@ pub fn run<B: Bus, T: Tagger, S: Sink>(
         (S.state out.old) (S.state out.new) (B.history bus) (B.history result.1) result.0 }
 
     // The bus is what calls made of the one that was given.
-    ensures bus { B.moved bus result.1 }
+    ensures bus { Reaches B.moved bus result.1 }
 {
     let mut running = match Running::boot(alloc, image, input, setup, tagger, bus) {
         Ok(running) => running,

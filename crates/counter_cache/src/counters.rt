@@ -12,6 +12,7 @@ ghost use Rattle.sec_base.specs.declared.message.Message.{Message};
 ghost use Rattle.sec_base.specs.declared.place.Place.{Place};
 ghost use Rattle.sec_base.specs.declared.place.Place.TheVariants.{Node as node_place};
 ghost use Rattle.sec_base.specs.declared.stop.MemStop.TheVariants.{Tampered, Spent as stop_spent, NoMemory as no_memory};
+ghost use Rattle.bus_model.specs.Access.{Reaches};
 ghost use Rattle.bus_model.specs.BusHistory.{NothingWritten};
 ghost use Rattle.cache_set.specs.CacheSet.{HasRoom, without};
 ghost use Rattle.cache_set.specs.Cache.{IsLatest, copy_at, set_at, way_at};
@@ -178,7 +179,7 @@ impl Counters {
 
         ensures moves { Moves (B.history bus.old) tags.old (B.history bus.new) tags.new }
         ensures lines { SameLines (B.history bus.old) tags.old.made (B.history bus.new) tags.new.made }
-        ensures moved { B.moved bus.old bus.new }
+        ensures moved { Reaches B.moved bus.old bus.new }
         ensures slots { HoldsCounters (tags_of T.data_tag_of T.node_tag_of) self.old (B.history bus.old) tags.old →
             tags.new.evidence ≡ None → SlotsAreTags (tags_of T.data_tag_of T.node_tag_of tags.old) self.old.tree.geometry tags.old.made →
             SlotsAreTags (tags_of T.data_tag_of T.node_tag_of tags.old) self.old.tree.geometry tags.new.made }
@@ -299,7 +300,7 @@ impl Counters {
 
         ensures moves { Moves (B.history bus.old) tags.old (B.history bus.new) tags.new }
         ensures lines { SameLines (B.history bus.old) tags.old.made (B.history bus.new) tags.new.made }
-        ensures moved { B.moved bus.old bus.new }
+        ensures moved { Reaches B.moved bus.old bus.new }
         ensures slots { HoldsCounters (tags_of T.data_tag_of T.node_tag_of) self.old (B.history bus.old) tags.old →
             tags.new.evidence ≡ None → SlotsAreTags (tags_of T.data_tag_of T.node_tag_of tags.old) self.old.tree.geometry tags.old.made →
             SlotsAreTags (tags_of T.data_tag_of T.node_tag_of tags.old) self.old.tree.geometry tags.new.made }
@@ -364,7 +365,7 @@ impl Counters {
         ensures once_clean { LeavesClean self.old page →
             (B.history bus.new).accesses ≤ (B.history bus.old).accesses + path_accesses self.old.tree.geometry.levels }
         ensures written { OnlyLeavingIsMade self.old page tags.old.made tags.new.made }
-        ensures moved { B.moved bus.old bus.new }
+        ensures moved { Reaches B.moved bus.old bus.new }
     {
         if self.blocks.touch(page) {
             return Ok(());
@@ -405,7 +406,7 @@ impl Counters {
             (B.history bus.new).reads (node_place 0 other) ≡ (B.history bus.old).reads (node_place 0 other) }
         ensures idle { LeavesClean self.old page → (B.history bus.new).accesses ≡ (B.history bus.old).accesses }
         ensures written { OnlyLeavingIsMade self.old page tags.old.made tags.new.made }
-        ensures moved { B.moved bus.old bus.new }
+        ensures moved { Reaches B.moved bus.old bus.new }
     {
         let Some(victim) = self.blocks.victim(page) else {
             return Ok(());
@@ -442,7 +443,7 @@ impl Counters {
         ensures idle { victim.now.changed ≡ false → (B.history bus.new).accesses ≡ (B.history bus.old).accesses }
         ensures written { (level_blocks 0 tags.new.made ≡ level_blocks 0 tags.old.made) ⊎ ((victim.now.changed ≡ true)
             × (level_blocks 0 tags.new.made ≡ level_blocks 0 tags.old.made ++ (victim.now.place, victim.now.copy) ∷ [])) }
-        ensures moved { B.moved bus.old bus.new }
+        ensures moved { Reaches B.moved bus.old bus.new }
     {
         if !victim.changed {
             return Ok(());

@@ -14,6 +14,7 @@ ghost use Rattle.sec_base.specs.declared.place.Place.TheVariants.{Line as line_p
 ghost use Rattle.sec_base.specs.declared.sealed.Sealed.{Sealed};
 ghost use Rattle.sec_base.specs.declared.stop.MemStop.{MemStop};
 ghost use Rattle.sec_base.specs.declared.stop.MemStop.TheVariants.{Tampered, Spent};
+ghost use Rattle.bus_model.specs.Access.{Reaches};
 ghost use Rattle.bus_model.specs.BusHistory.{NothingWritten};
 ghost use Rattle.tag_engine.specs.TagEngine.{tags_of};
 ghost use Rattle.pad_stream.specs.Pad.{cipher_of};
@@ -154,10 +155,10 @@ impl<B: Bus, T: Tagger> LineStore for SealedLines<B, T> {
     ghost stopped = { λ lines. lines.stopped };
 
     ghost read_moved = { λ before line answer after.
-        ReadMoved B.history B.moved (tags_of T.data_tag_of T.node_tag_of) before line answer after };
+        ReadMoved B.history (Reaches B.moved) (tags_of T.data_tag_of T.node_tag_of) before line answer after };
 
     ghost write_moved = { λ before line bytes answer after.
-        WriteMoved B.history B.moved (tags_of T.data_tag_of T.node_tag_of) before line bytes answer after };
+        WriteMoved B.history (Reaches B.moved) (tags_of T.data_tag_of T.node_tag_of) before line bytes answer after };
 
     fn lines(&self) -> u32 {
         self.geometry.lines()
@@ -176,7 +177,7 @@ impl<B: Bus, T: Tagger> LineStore for SealedLines<B, T> {
 
         ensures extent { lines_of self.new ≡ lines_of self.old }
         ensures lost { IsQuiet self.new → IsQuiet self.old }
-        ensures moved { ReadMoved B.history B.moved (tags_of T.data_tag_of T.node_tag_of) self.old line result self.new }
+        ensures moved { ReadMoved B.history (Reaches B.moved) (tags_of T.data_tag_of T.node_tag_of) self.old line result self.new }
 
         // A lasting stop is answered again, and nothing is done.
         ensures kept { (stop : MemStop) → lasting_stop self.old.stopped ≡ Some stop →
@@ -257,7 +258,7 @@ impl<B: Bus, T: Tagger> LineStore for SealedLines<B, T> {
 
         ensures extent { lines_of self.new ≡ lines_of self.old }
         ensures lost { IsQuiet self.new → IsQuiet self.old }
-        ensures moved { WriteMoved B.history B.moved (tags_of T.data_tag_of T.node_tag_of) self.old line bytes.now result self.new }
+        ensures moved { WriteMoved B.history (Reaches B.moved) (tags_of T.data_tag_of T.node_tag_of) self.old line bytes.now result self.new }
 
         // A lasting stop is answered again, and nothing is done.
         ensures kept { (stop : MemStop) → lasting_stop self.old.stopped ≡ Some stop →
@@ -373,15 +374,15 @@ fn read_at<B: Bus, T: Tagger>(
     requires inside { line < line_count outside.old.engine.geometry }
     requires geometry { counters.old.tree.geometry ≡ outside.old.engine.geometry }
     requires pages { AreOfPages outside.old.engine.geometry counters.old }
-    requires consistent { AreConsistent (terms_of B.history B.moved T.data_tag_of T.node_tag_of outside.old) outside.old }
-    requires holds_last { HaveLast (terms_of B.history B.moved T.data_tag_of T.node_tag_of outside.old) outside.old }
-    requires nodes_hold_last { HaveLastNodes (terms_of B.history B.moved T.data_tag_of T.node_tag_of outside.old) outside.old }
-    requires risen { HaveRisen (terms_of B.history B.moved T.data_tag_of T.node_tag_of outside.old) outside.old }
-    requires fits { CountersFit (terms_of B.history B.moved T.data_tag_of T.node_tag_of outside.old) outside.old counters.old }
-    requires current { CountersSay (terms_of B.history B.moved T.data_tag_of T.node_tag_of outside.old) outside.old counters.old }
+    requires consistent { AreConsistent (terms_of B.history (Reaches B.moved) T.data_tag_of T.node_tag_of outside.old) outside.old }
+    requires holds_last { HaveLast (terms_of B.history (Reaches B.moved) T.data_tag_of T.node_tag_of outside.old) outside.old }
+    requires nodes_hold_last { HaveLastNodes (terms_of B.history (Reaches B.moved) T.data_tag_of T.node_tag_of outside.old) outside.old }
+    requires risen { HaveRisen (terms_of B.history (Reaches B.moved) T.data_tag_of T.node_tag_of outside.old) outside.old }
+    requires fits { CountersFit (terms_of B.history (Reaches B.moved) T.data_tag_of T.node_tag_of outside.old) outside.old counters.old }
+    requires current { CountersSay (terms_of B.history (Reaches B.moved) T.data_tag_of T.node_tag_of outside.old) outside.old counters.old }
     requires started { outside.old.engine.evidence ≡ None → (at : ℕ) → HasCounter outside.old.pads.used at (counter_in outside.old.pads.used at) }
 
-    ensures read { IsLineRead (terms_of B.history B.moved T.data_tag_of T.node_tag_of outside.old) line
+    ensures read { IsLineRead (terms_of B.history (Reaches B.moved) T.data_tag_of T.node_tag_of outside.old) line
         outside.old counters.old outside.new counters.new result }
     ensures cached { OnOk result (Contains (cached_pages counters.new) (page_of line)) }
     ensures pages { AreOfPages outside.old.engine.geometry counters.new }
@@ -402,16 +403,16 @@ fn write_next<B: Bus, T: Tagger>(
     requires inside { line < line_count outside.old.engine.geometry }
     requires geometry { counters.old.tree.geometry ≡ outside.old.engine.geometry }
     requires pages { AreOfPages outside.old.engine.geometry counters.old }
-    requires consistent { AreConsistent (terms_of B.history B.moved T.data_tag_of T.node_tag_of outside.old) outside.old }
-    requires holds_last { HaveLast (terms_of B.history B.moved T.data_tag_of T.node_tag_of outside.old) outside.old }
-    requires nodes_hold_last { HaveLastNodes (terms_of B.history B.moved T.data_tag_of T.node_tag_of outside.old) outside.old }
-    requires risen { HaveRisen (terms_of B.history B.moved T.data_tag_of T.node_tag_of outside.old) outside.old }
-    requires fits { CountersFit (terms_of B.history B.moved T.data_tag_of T.node_tag_of outside.old) outside.old counters.old }
-    requires current { CountersSay (terms_of B.history B.moved T.data_tag_of T.node_tag_of outside.old) outside.old counters.old }
+    requires consistent { AreConsistent (terms_of B.history (Reaches B.moved) T.data_tag_of T.node_tag_of outside.old) outside.old }
+    requires holds_last { HaveLast (terms_of B.history (Reaches B.moved) T.data_tag_of T.node_tag_of outside.old) outside.old }
+    requires nodes_hold_last { HaveLastNodes (terms_of B.history (Reaches B.moved) T.data_tag_of T.node_tag_of outside.old) outside.old }
+    requires risen { HaveRisen (terms_of B.history (Reaches B.moved) T.data_tag_of T.node_tag_of outside.old) outside.old }
+    requires fits { CountersFit (terms_of B.history (Reaches B.moved) T.data_tag_of T.node_tag_of outside.old) outside.old counters.old }
+    requires current { CountersSay (terms_of B.history (Reaches B.moved) T.data_tag_of T.node_tag_of outside.old) outside.old counters.old }
     requires started { outside.old.engine.evidence ≡ None → (at : ℕ) → HasCounter outside.old.pads.used at (counter_in outside.old.pads.used at) }
     requires limited { outside.old.engine.evidence ≡ None → (counter_in outside.old.pads.used line).page ≤ limit }
 
-    ensures written { IsWrite (terms_of B.history B.moved T.data_tag_of T.node_tag_of outside.old) limit line bytes.now
+    ensures written { IsWrite (terms_of B.history (Reaches B.moved) T.data_tag_of T.node_tag_of outside.old) limit line bytes.now
         outside.old counters.old outside.new counters.new (result_err result) }
     ensures cached { lasting_stop (result_err result) ≡ None → Contains (cached_pages counters.new) (page_of line) }
     ensures pages { AreOfPages outside.old.engine.geometry counters.new }

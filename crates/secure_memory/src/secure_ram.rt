@@ -9,6 +9,7 @@ ghost use Rattle.sec_base.specs.declared.evidence.Evidence.TheVariants.{Collisio
 ghost use Rattle.sec_base.specs.declared.sealed.Sealed.{Sealed};
 ghost use Rattle.sec_base.specs.declared.stop.MemStop.{MemStop};
 ghost use Rattle.sec_base.specs.declared.stop.MemStop.TheVariants.{Spent};
+ghost use Rattle.bus_model.specs.Access.{Reaches, reaches_none, reaches_on};
 ghost use Rattle.bus_model.specs.BusHistory.{NothingWritten};
 ghost use Rattle.tag_engine.specs.TagEngine.{tags_of};
 ghost use Rattle.pad_stream.specs.Pad.{cipher_of};
@@ -152,7 +153,7 @@ impl<B: Bus, T: Tagger> Ram for SecureRam<B, T> {
     ghost stopped = { λ memory. stopped memory };
 
     ghost moved = { λ before lines after.
-        IsMoved B.history B.moved (tags_of T.data_tag_of T.node_tag_of) before lines after };
+        IsMoved B.history (Reaches B.moved) (tags_of T.data_tag_of T.node_tag_of) before lines after };
 
     fn size(&self) -> u32 {
         self.size
@@ -172,7 +173,7 @@ impl<B: Bus, T: Tagger> Ram for SecureRam<B, T> {
 
         ensures extent { 64 * lines_of self.new ≡ 64 * lines_of self.old }
         ensures lost { IsQuiet self.new → IsQuiet self.old }
-        ensures moved { IsMoved B.history B.moved (tags_of T.data_tag_of T.node_tag_of) self.old (line_of addr ∷ []) self.new }
+        ensures moved { IsMoved B.history (Reaches B.moved) (tags_of T.data_tag_of T.node_tag_of) self.old (line_of addr ∷ []) self.new }
 
         // The first stop is answered again, and nothing is done.
         ensures latched { (stop : MemStop) → stopped self.old ≡ Some stop → (result ≡ Err stop) × (self.new ≡ self.old) }
@@ -187,8 +188,8 @@ impl<B: Bus, T: Tagger> Ram for SecureRam<B, T> {
 
         // A line that is not held is read, once the changed line that goes out for it was written.
         ensures missed { stopped self.old ≡ None → ¬ Contains (held_lines self.old) (line_of addr) →
-            IsMissed (ReadMoved B.history B.moved (tags_of T.data_tag_of T.node_tag_of))
-            (WriteMoved B.history B.moved (tags_of T.data_tag_of T.node_tag_of))
+            IsMissed (ReadMoved B.history (Reaches B.moved) (tags_of T.data_tag_of T.node_tag_of))
+            (WriteMoved B.history (Reaches B.moved) (tags_of T.data_tag_of T.node_tag_of))
             self.old.ways self.old.lines (line_of addr) (λ bytes. bytes) (result_err result) self.new.ways self.new.lines }
 
         // The line becomes the most recently used one of its set, and a load marks no line. Where the write of the line that
@@ -196,8 +197,8 @@ impl<B: Bus, T: Tagger> Ram for SecureRam<B, T> {
         ensures ways { stopped self.old ≡ None → OnOk result ((copy : List ℕ) × (copy_at self.new.ways (line_of addr) ≡ Some copy)
             × (self.new.ways ≡ brought self.old.ways (line_of addr) copy)) }
         ensures ways_left { stopped self.old ≡ None → IfErr result (λ stop. IsStoppedMiss
-            (ReadMoved B.history B.moved (tags_of T.data_tag_of T.node_tag_of))
-            (WriteMoved B.history B.moved (tags_of T.data_tag_of T.node_tag_of))
+            (ReadMoved B.history (Reaches B.moved) (tags_of T.data_tag_of T.node_tag_of))
+            (WriteMoved B.history (Reaches B.moved) (tags_of T.data_tag_of T.node_tag_of))
             (leaving self.old.ways (line_of addr)) self.old.ways self.old.lines (line_of addr) stop self.new.ways self.new.lines) }
 
         // A page that is spent changes no byte, with evidence too.
@@ -258,7 +259,7 @@ impl<B: Bus, T: Tagger> Ram for SecureRam<B, T> {
 
         ensures extent { 64 * lines_of self.new ≡ 64 * lines_of self.old }
         ensures lost { IsQuiet self.new → IsQuiet self.old }
-        ensures moved { IsMoved B.history B.moved (tags_of T.data_tag_of T.node_tag_of) self.old (line_of addr ∷ []) self.new }
+        ensures moved { IsMoved B.history (Reaches B.moved) (tags_of T.data_tag_of T.node_tag_of) self.old (line_of addr ∷ []) self.new }
 
         // The first stop is answered again, and nothing is done.
         ensures latched { (stop : MemStop) → stopped self.old ≡ Some stop → (result ≡ Err stop) × (self.new ≡ self.old) }
@@ -273,8 +274,8 @@ impl<B: Bus, T: Tagger> Ram for SecureRam<B, T> {
 
         // A line that is not held is read, once the changed line that goes out for it was written.
         ensures missed { stopped self.old ≡ None → ¬ Contains (held_lines self.old) (line_of addr) →
-            IsMissed (ReadMoved B.history B.moved (tags_of T.data_tag_of T.node_tag_of))
-            (WriteMoved B.history B.moved (tags_of T.data_tag_of T.node_tag_of))
+            IsMissed (ReadMoved B.history (Reaches B.moved) (tags_of T.data_tag_of T.node_tag_of))
+            (WriteMoved B.history (Reaches B.moved) (tags_of T.data_tag_of T.node_tag_of))
             self.old.ways self.old.lines (line_of addr) (λ bytes. with_number bytes (addr % 64) width value) (result_err result) self.new.ways self.new.lines }
 
         // The line becomes the most recently used one of its set, and is marked. Where the write of the line that goes out
@@ -282,8 +283,8 @@ impl<B: Bus, T: Tagger> Ram for SecureRam<B, T> {
         ensures ways { stopped self.old ≡ None → OnOk result ((copy : List ℕ) × (self.new.ways
             ≡ with_changed (brought self.old.ways (line_of addr) copy) (line_of addr) (with_number copy (addr % 64) width value))) }
         ensures ways_left { stopped self.old ≡ None → IfErr result (λ stop. IsStoppedMiss
-            (ReadMoved B.history B.moved (tags_of T.data_tag_of T.node_tag_of))
-            (WriteMoved B.history B.moved (tags_of T.data_tag_of T.node_tag_of))
+            (ReadMoved B.history (Reaches B.moved) (tags_of T.data_tag_of T.node_tag_of))
+            (WriteMoved B.history (Reaches B.moved) (tags_of T.data_tag_of T.node_tag_of))
             (leaving self.old.ways (line_of addr)) self.old.ways self.old.lines (line_of addr) stop self.new.ways self.new.lines) }
 
         // A page that is spent changes no byte, with evidence too.
@@ -315,9 +316,9 @@ impl<B: Bus, T: Tagger> Ram for SecureRam<B, T> {
     ghost sized = { λ memory. length-contents_over (line_contents memory.lines) (lines_of memory) memory.ways };
 
     ghost unmoved = { λ memory.
-        unmoved B.history B.moved (tags_of T.data_tag_of T.node_tag_of) B.unmoved memory };
+        unmoved B.history (Reaches B.moved) (tags_of T.data_tag_of T.node_tag_of) (reaches_none B.moved B.unmoved) memory };
 
     ghost moved_on = { λ first second third before after a b.
-        moved_on B.history B.moved (tags_of T.data_tag_of T.node_tag_of) B.moved_on
+        moved_on B.history (Reaches B.moved) (tags_of T.data_tag_of T.node_tag_of) (reaches_on B.moved B.moved_on)
         first second third before after a b };
 }

@@ -1,6 +1,7 @@
 use Rattle.std.proofs.Common.{◌≡◌, ℕ, List, Some, None, Contains, Result, Ok, Err, OnOk, refl, ap, sym, subst, rules}
 use Rattle.sec_base.specs.declared.counter.Counter.{Counter}
 use Rattle.sec_base.specs.declared.stop.MemStop.{MemStop}
+use Rattle.bus_model.specs.Access.{Reaches, reaches_on}
 use Rattle.bus_model.specs.BusHistory.{BusHistory}
 use Rattle.counter_cache.specs.Counters.{cached_pages}
 use Rattle.sec_base.specs.Geometry.{page_of}
@@ -16,7 +17,7 @@ use Rattle.page_reencrypt.proofs.sealed_lines.read_at.Goals as goal
 pub returns-in_err-block : goal.returns-in_err-block
 returns-in_err-block g c =
     let h = g.B.Bus.history in
-    let m = g.B.Bus.moved in
+    let m = (Reaches g.B.Bus.moved) in
     let d = g.T.Tagger.data_tag_of in
     let n = g.T.Tagger.node_tag_of in
     let old = c.args.outside.now in
@@ -49,7 +50,7 @@ returns-in_err-block g c =
 pub read-requires-clause-counter : goal.read-requires-clause-counter
 read-requires-clause-counter g c = λ quiet.
     let h = g.B.Bus.history in
-    let m = g.B.Bus.moved in
+    let m = (Reaches g.B.Bus.moved) in
     let d = g.T.Tagger.data_tag_of in
     let n = g.T.Tagger.node_tag_of in
     let old = c.args.outside.now in
@@ -85,7 +86,7 @@ read-requires-clause-counter g c = λ quiet.
 pub returns : goal.returns
 returns g c =
     let h = g.B.Bus.history in
-    let m = g.B.Bus.moved in
+    let m = (Reaches g.B.Bus.moved) in
     let d = g.T.Tagger.data_tag_of in
     let n = g.T.Tagger.node_tag_of in
     let old = c.args.outside.now in
@@ -110,7 +111,7 @@ returns g c =
           (record { few = e.few_copies; copies = e.copies c.requires.fits; unread = e.unread c.requires.fits }) (e.read c.requires.fits) e.found
           (λ made_at bytes tag quiet is. ok_same c.in_ok-block.block (block_of bytes) (Ok c.in_ok-block.block) (Ok (block_of bytes)) refl refl (e.accepted made_at bytes tag quiet is))
           (e.checked c.in_ok-block.block refl)
-          (g.met.B.Bus.moved_on old.bus c.get.new.self.bus c.read.new.self.bus e.step.bus r.moved) r.counted r.once r.alone r.value r.fresh r.rose
+          ((reaches_on g.B.Bus.moved g.met.B.Bus.moved_on) old.bus c.get.new.self.bus c.read.new.self.bus e.step.bus r.moved) r.counted r.once r.alone r.value r.fresh r.rose
           r.accounted r.shows r.found r.under r.accepted r.tampered r.unspent;
       cached = on_success c.read.result (λ none. subst (λ (p : ℕ). Contains (cached_pages c.get.new.counters) p) c.page_of.ensures.page e.cached);
       pages = e.pages;

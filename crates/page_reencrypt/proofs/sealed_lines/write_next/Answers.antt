@@ -8,6 +8,7 @@ use Rattle.sec_base.specs.declared.place.Place.TheVariants.{Line as line_place}
 use Rattle.sec_base.specs.declared.stop.MemStop.{MemStop}
 use Rattle.sec_base.specs.declared.stop.MemStop.TheVariants.{NoMemory}
 use Rattle.sec_base.proofs.Results.{was_none}
+use Rattle.bus_model.specs.Access.{Reaches, reaches_none, reaches_on}
 use Rattle.bus_model.specs.BusHistory.{BusHistory}
 use Rattle.tag_engine.specs.TagEngine.{tags_of}
 use Rattle.pad_stream.specs.Pad.{cipher_of}
@@ -30,7 +31,7 @@ use Rattle.page_reencrypt.proofs.sealed_lines.write_next.Goals as goal
 pub returns-in_err-block-clause-written : goal.returns-in_err-block-clause-written
 returns-in_err-block-clause-written g c =
     let h = g.B.Bus.history in
-    let m = g.B.Bus.moved in
+    let m = (Reaches g.B.Bus.moved) in
     let d = g.T.Tagger.data_tag_of in
     let n = g.T.Tagger.node_tag_of in
     let old = c.args.outside.now in
@@ -60,7 +61,7 @@ returns-in_err-block-clause-written g c =
 pub returns-in-Spent-clause-written : goal.returns-in-Spent-clause-written
 returns-in-Spent-clause-written g c =
     let h = g.B.Bus.history in
-    let m = g.B.Bus.moved in
+    let m = (Reaches g.B.Bus.moved) in
     let d = g.T.Tagger.data_tag_of in
     let n = g.T.Tagger.node_tag_of in
     let old = c.args.outside.now in
@@ -172,7 +173,7 @@ returns-in-Spent-clause-hit_overflow g c = λ cached.
 pub returns-in_err-reserve : goal.returns-in_err-reserve
 returns-in_err-reserve g c =
     let h = g.B.Bus.history in
-    let m = g.B.Bus.moved in
+    let m = (Reaches g.B.Bus.moved) in
     let d = g.T.Tagger.data_tag_of in
     let n = g.T.Tagger.node_tag_of in
     let old = c.args.outside.now in
@@ -212,7 +213,7 @@ returns-in_err-reserve g c =
     record {
       written = subst (λ (s : Option MemStop). IsWrite (terms_of h m d n old) c.args.limit c.args.line c.args.bytes.now old counters c.reserve.new.self c.get.new.counters s) (sym stop)
           (stopped_early h m d n old counters c.reserve.new.self c.get.new.counters NoMemory
-          (refused_reached h m d n old counters c.get.new.self c.get.new.counters got (g.met.B.Bus.unmoved c.get.new.self.bus) g.met.B.Bus.moved_on c.reserve.new.self differs)
+          (refused_reached h m d n old counters c.get.new.self c.get.new.counters got ((reaches_none g.B.Bus.moved g.met.B.Bus.unmoved) c.get.new.self.bus) (reaches_on g.B.Bus.moved g.met.B.Bus.moved_on) c.reserve.new.self differs)
           c.args.limit c.args.line c.args.bytes.now c.requires.risen (λ page is. cc)
           (inl (λ quiet page. ap (λ e. counters_in c.get.new.counters e.made page) differs.engine
           ∙ e.same c.requires.fits (sym (ap (λ e. e.evidence) differs.engine) ∙ quiet) page)) (λ place is. absurd (cc))
@@ -243,7 +244,7 @@ returns-in_err-counter g c = let refused = c.in_err-counter.ensures.ok in absurd
 pub returns-in-Spent-2 : goal.returns-in-Spent-2
 returns-in-Spent-2 g c =
     let h = g.B.Bus.history in
-    let m = g.B.Bus.moved in
+    let m = (Reaches g.B.Bus.moved) in
     let d = g.T.Tagger.data_tag_of in
     let n = g.T.Tagger.node_tag_of in
     let old = c.args.outside.now in
@@ -283,11 +284,11 @@ returns-in-Spent-2 g c =
     let bumped_evidence : c.bump.new.self.engine.evidence ≡ c.get.new.self.engine.evidence = ap (λ e. e.evidence) u.idle.1
     ∙ ap (λ (o : OutsideView g.row.B.Denot g.row.T.Denot). o.engine.evidence) c.in_ok-reserve.ensures.taken in
     let up = counted_up h m d n old counters c.requires.current c.args.limit c.args.line c.page_of-page.result c.place_of-place.result c.get.new.self c.get.new.counters
-    c.in_ok-block.block c.get-2.result c.of.result had (g.met.B.Bus.unmoved c.get.new.self.bus) g.met.B.Bus.moved_on c.reserve.new.self c.bump.new.self c.bump.new.counters
+    c.in_ok-block.block c.get-2.result c.of.result had ((reaches_none g.B.Bus.moved g.met.B.Bus.unmoved) c.get.new.self.bus) (reaches_on g.B.Bus.moved g.met.B.Bus.moved_on) c.reserve.new.self c.bump.new.self c.bump.new.counters
     c.in_ok-counter.field-0 c.in_ok-reserve.ensures.taken u.moved u.idle u.pads u.geometry u.few_copies u.copies u.fits u.outcome u.block u.others in
     record {
       written = spent_after h m d n old counters c.requires.current c.args.limit c.args.line c.page_of-page.result c.place_of-place.result c.get.new.self c.get.new.counters
-          c.in_ok-block.block c.get-2.result c.of.result had (g.met.B.Bus.unmoved c.get.new.self.bus) g.met.B.Bus.moved_on c.reserve.new.self c.bump.new.self c.bump.new.counters
+          c.in_ok-block.block c.get-2.result c.of.result had ((reaches_none g.B.Bus.moved g.met.B.Bus.unmoved) c.get.new.self.bus) (reaches_on g.B.Bus.moved g.met.B.Bus.moved_on) c.reserve.new.self c.bump.new.self c.bump.new.counters
           c.in_ok-counter.field-0 up c.args.bytes.now c.requires.risen c.in-Spent-2.is c.in_default.not-Spent;
       cached = λ going. subst (λ (p : ℕ). Contains (cached_pages c.bump.new.counters) p) c.page_of-page.ensures.page u.cached;
       pages = subst (λ (l : GeometryView). AreOfPages l c.bump.new.counters) same_geometry u.pages;
@@ -305,7 +306,7 @@ returns-in-Spent-2 g c =
 pub returns-in_err-seal-in-Line : goal.returns-in_err-seal-in-Line
 returns-in_err-seal-in-Line g c =
     let h = g.B.Bus.history in
-    let m = g.B.Bus.moved in
+    let m = (Reaches g.B.Bus.moved) in
     let d = g.T.Tagger.data_tag_of in
     let n = g.T.Tagger.node_tag_of in
     let old = c.args.outside.now in
@@ -345,7 +346,7 @@ returns-in_err-seal-in-Line g c =
     let bumped_evidence : c.bump.new.self.engine.evidence ≡ c.get.new.self.engine.evidence = ap (λ e. e.evidence) u.idle.1
     ∙ ap (λ (o : OutsideView g.row.B.Denot g.row.T.Denot). o.engine.evidence) c.in_ok-reserve.ensures.taken in
     let up = counted_up h m d n old counters c.requires.current c.args.limit c.args.line c.page_of-page.result c.place_of-place.result c.get.new.self c.get.new.counters
-    c.in_ok-block.block c.get-2.result c.of.result had (g.met.B.Bus.unmoved c.get.new.self.bus) g.met.B.Bus.moved_on c.reserve.new.self c.bump.new.self c.bump.new.counters
+    c.in_ok-block.block c.get-2.result c.of.result had ((reaches_none g.B.Bus.moved g.met.B.Bus.unmoved) c.get.new.self.bus) (reaches_on g.B.Bus.moved g.met.B.Bus.moved_on) c.reserve.new.self c.bump.new.self c.bump.new.counters
     c.in_ok-counter.field-0 c.in_ok-reserve.ensures.taken u.moved u.idle u.pads u.geometry u.few_copies u.copies u.fits u.outcome u.block u.others in
     let stop : result_err c.from_residual-in_err-seal-in-Line.result ≡ Some NoMemory = search rules in
     let s = c.seal.ensures in
@@ -354,7 +355,7 @@ returns-in_err-seal-in-Line g c =
     record {
       written = subst (λ (s : Option MemStop). IsWrite (terms_of h m d n old) c.args.limit c.args.line c.args.bytes.now old counters c.seal.new.self c.bump.new.counters s) (sym stop)
           (line_unwritten h m d n old counters c.requires.current c.args.limit c.args.line c.page_of-page.result c.place_of-place.result c.get.new.self c.get.new.counters
-          c.in_ok-block.block c.get-2.result c.of.result had (g.met.B.Bus.unmoved c.get.new.self.bus) g.met.B.Bus.moved_on c.reserve.new.self c.bump.new.self c.bump.new.counters
+          c.in_ok-block.block c.get-2.result c.of.result had ((reaches_none g.B.Bus.moved g.met.B.Bus.unmoved) c.get.new.self.bus) (reaches_on g.B.Bus.moved g.met.B.Bus.moved_on) c.reserve.new.self c.bump.new.self c.bump.new.counters
           c.in_ok-counter.field-0 up c.requires.started (e.read c.requires.fits) c.args.bytes.now c.in-Line.counter c.in-Line.is
           (u.is_line c.in-Line.counter (ap (λ o. Ok o) c.in-Line.is)) c.of.ensures.line c.seal.new.self s.used s.made s.undone s.moves s.moved s.honest
           c.requires.risen same_last);
@@ -376,7 +377,7 @@ returns-in_err-seal-in-Line g c =
 pub returns-in_ok-seal-in-Line : goal.returns-in_ok-seal-in-Line
 returns-in_ok-seal-in-Line g c =
     let h = g.B.Bus.history in
-    let m = g.B.Bus.moved in
+    let m = (Reaches g.B.Bus.moved) in
     let d = g.T.Tagger.data_tag_of in
     let n = g.T.Tagger.node_tag_of in
     let old = c.args.outside.now in
@@ -416,7 +417,7 @@ returns-in_ok-seal-in-Line g c =
     let bumped_evidence : c.bump.new.self.engine.evidence ≡ c.get.new.self.engine.evidence = ap (λ e. e.evidence) u.idle.1
     ∙ ap (λ (o : OutsideView g.row.B.Denot g.row.T.Denot). o.engine.evidence) c.in_ok-reserve.ensures.taken in
     let up = counted_up h m d n old counters c.requires.current c.args.limit c.args.line c.page_of-page.result c.place_of-place.result c.get.new.self c.get.new.counters
-    c.in_ok-block.block c.get-2.result c.of.result had (g.met.B.Bus.unmoved c.get.new.self.bus) g.met.B.Bus.moved_on c.reserve.new.self c.bump.new.self c.bump.new.counters
+    c.in_ok-block.block c.get-2.result c.of.result had ((reaches_none g.B.Bus.moved g.met.B.Bus.unmoved) c.get.new.self.bus) (reaches_on g.B.Bus.moved g.met.B.Bus.moved_on) c.reserve.new.self c.bump.new.self c.bump.new.counters
     c.in_ok-counter.field-0 c.in_ok-reserve.ensures.taken u.moved u.idle u.pads u.geometry u.few_copies u.copies u.fits u.outcome u.block u.others in
     let s = c.seal.ensures in
     let wrote = c.in_ok-seal-in-Line.ensures.ok in
@@ -426,7 +427,7 @@ returns-in_ok-seal-in-Line g c =
     let last_accesses = one_access c.args.line put (h c.bump.new.self.bus) (h c.seal.new.self.bus) wrote in
     record {
       written = line_written h m d n old counters c.requires.current c.args.limit c.args.line c.page_of-page.result c.place_of-place.result c.get.new.self c.get.new.counters
-          c.in_ok-block.block c.get-2.result c.of.result had (g.met.B.Bus.unmoved c.get.new.self.bus) g.met.B.Bus.moved_on c.reserve.new.self c.bump.new.self c.bump.new.counters
+          c.in_ok-block.block c.get-2.result c.of.result had ((reaches_none g.B.Bus.moved g.met.B.Bus.unmoved) c.get.new.self.bus) (reaches_on g.B.Bus.moved g.met.B.Bus.moved_on) c.reserve.new.self c.bump.new.self c.bump.new.counters
           c.in_ok-counter.field-0 up c.requires.started (e.read c.requires.fits) c.args.bytes.now c.in-Line.counter c.in-Line.is
           (u.is_line c.in-Line.counter (ap (λ o. Ok o) c.in-Line.is)) c.of.ensures.line c.seal.new.self s.used s.made s.undone s.moves s.moved s.honest
           c.requires.risen wrote;
@@ -448,7 +449,7 @@ returns-in_ok-seal-in-Line g c =
 pub reencrypt_page-requires : goal.reencrypt_page-requires
 reencrypt_page-requires g c =
     let h = g.B.Bus.history in
-    let m = g.B.Bus.moved in
+    let m = (Reaches g.B.Bus.moved) in
     let d = g.T.Tagger.data_tag_of in
     let n = g.T.Tagger.node_tag_of in
     let old = c.args.outside.now in
@@ -483,29 +484,29 @@ reencrypt_page-requires g c =
     let u = c.in_ok-counter.ensures in
     let bumped_accesses = ap (λ (t : BusHistory). t.accesses) u.idle.0 in
     let up = counted_up h m d n old counters c.requires.current c.args.limit c.args.line c.page_of-page.result c.place_of-place.result c.get.new.self c.get.new.counters
-    c.in_ok-block.block c.get-2.result c.of.result had (g.met.B.Bus.unmoved c.get.new.self.bus) g.met.B.Bus.moved_on c.reserve.new.self c.bump.new.self c.bump.new.counters
+    c.in_ok-block.block c.get-2.result c.of.result had ((reaches_none g.B.Bus.moved g.met.B.Bus.unmoved) c.get.new.self.bus) (reaches_on g.B.Bus.moved g.met.B.Bus.moved_on) c.reserve.new.self c.bump.new.self c.bump.new.counters
     c.in_ok-counter.field-0 c.in_ok-reserve.ensures.taken u.moved u.idle u.pads u.geometry u.few_copies u.copies u.fits u.outcome u.block u.others in
     let rooms = mid_rooms h m d n old counters c.requires.current c.args.limit c.args.line c.page_of-page.result c.place_of-place.result c.get.new.self c.get.new.counters
-    c.in_ok-block.block c.get-2.result c.of.result had (g.met.B.Bus.unmoved c.get.new.self.bus) g.met.B.Bus.moved_on c.reserve.new.self c.bump.new.self c.bump.new.counters
+    c.in_ok-block.block c.get-2.result c.of.result had ((reaches_none g.B.Bus.moved g.met.B.Bus.unmoved) c.get.new.self.bus) (reaches_on g.B.Bus.moved g.met.B.Bus.moved_on) c.reserve.new.self c.bump.new.self c.bump.new.counters
     c.in_ok-counter.field-0 up in
     record {
       inside = mid_inside h m d n old counters c.requires.current c.args.limit c.args.line c.page_of-page.result c.place_of-place.result c.get.new.self c.get.new.counters
-          c.in_ok-block.block c.get-2.result c.of.result had (g.met.B.Bus.unmoved c.get.new.self.bus) g.met.B.Bus.moved_on c.reserve.new.self c.bump.new.self c.bump.new.counters
+          c.in_ok-block.block c.get-2.result c.of.result had ((reaches_none g.B.Bus.moved g.met.B.Bus.unmoved) c.get.new.self.bus) (reaches_on g.B.Bus.moved g.met.B.Bus.moved_on) c.reserve.new.self c.bump.new.self c.bump.new.counters
           c.in_ok-counter.field-0 up;
       consistent = mid_kept h m d n old counters c.requires.current c.args.limit c.args.line c.page_of-page.result c.place_of-place.result c.get.new.self c.get.new.counters
-          c.in_ok-block.block c.get-2.result c.of.result had (g.met.B.Bus.unmoved c.get.new.self.bus) g.met.B.Bus.moved_on c.reserve.new.self c.bump.new.self c.bump.new.counters
+          c.in_ok-block.block c.get-2.result c.of.result had ((reaches_none g.B.Bus.moved g.met.B.Bus.unmoved) c.get.new.self.bus) (reaches_on g.B.Bus.moved g.met.B.Bus.moved_on) c.reserve.new.self c.bump.new.self c.bump.new.counters
           c.in_ok-counter.field-0 up;
       holds_last = mid_last h m d n old counters c.requires.current c.args.limit c.args.line c.page_of-page.result c.place_of-place.result c.get.new.self c.get.new.counters
-          c.in_ok-block.block c.get-2.result c.of.result had (g.met.B.Bus.unmoved c.get.new.self.bus) g.met.B.Bus.moved_on c.reserve.new.self c.bump.new.self c.bump.new.counters
+          c.in_ok-block.block c.get-2.result c.of.result had ((reaches_none g.B.Bus.moved g.met.B.Bus.unmoved) c.get.new.self.bus) (reaches_on g.B.Bus.moved g.met.B.Bus.moved_on) c.reserve.new.self c.bump.new.self c.bump.new.counters
           c.in_ok-counter.field-0 up;
       risen = mid_rose h m d n old counters c.requires.current c.args.limit c.args.line c.page_of-page.result c.place_of-place.result c.get.new.self c.get.new.counters
-          c.in_ok-block.block c.get-2.result c.of.result had (g.met.B.Bus.unmoved c.get.new.self.bus) g.met.B.Bus.moved_on c.reserve.new.self c.bump.new.self c.bump.new.counters
+          c.in_ok-block.block c.get-2.result c.of.result had ((reaches_none g.B.Bus.moved g.met.B.Bus.unmoved) c.get.new.self.bus) (reaches_on g.B.Bus.moved g.met.B.Bus.moved_on) c.reserve.new.self c.bump.new.self c.bump.new.counters
           c.in_ok-counter.field-0 up c.requires.risen;
       counters = mid_counters h m d n old counters c.requires.current c.args.limit c.args.line c.page_of-page.result c.place_of-place.result c.get.new.self c.get.new.counters
-          c.in_ok-block.block c.get-2.result c.of.result had (g.met.B.Bus.unmoved c.get.new.self.bus) g.met.B.Bus.moved_on c.reserve.new.self c.bump.new.self c.bump.new.counters
+          c.in_ok-block.block c.get-2.result c.of.result had ((reaches_none g.B.Bus.moved g.met.B.Bus.unmoved) c.get.new.self.bus) (reaches_on g.B.Bus.moved g.met.B.Bus.moved_on) c.reserve.new.self c.bump.new.self c.bump.new.counters
           c.in_ok-counter.field-0 up c.requires.started;
       later = mid_later h m d n old counters c.requires.current c.args.limit c.args.line c.page_of-page.result c.place_of-place.result c.get.new.self c.get.new.counters
-          c.in_ok-block.block c.get-2.result c.of.result had (g.met.B.Bus.unmoved c.get.new.self.bus) g.met.B.Bus.moved_on c.reserve.new.self c.bump.new.self c.bump.new.counters
+          c.in_ok-block.block c.get-2.result c.of.result had ((reaches_none g.B.Bus.moved g.met.B.Bus.unmoved) c.get.new.self.bus) (reaches_on g.B.Bus.moved g.met.B.Bus.moved_on) c.reserve.new.self c.bump.new.self c.bump.new.counters
           c.in_ok-counter.field-0 up c.in-Page.raised c.in-Page.is c.of.ensures.overflow;
       room = rooms.1;
       pads_room = rooms.0;
@@ -514,7 +515,7 @@ reencrypt_page-requires g c =
 pub returns-in-Page : goal.returns-in-Page
 returns-in-Page g c =
     let h = g.B.Bus.history in
-    let m = g.B.Bus.moved in
+    let m = (Reaches g.B.Bus.moved) in
     let d = g.T.Tagger.data_tag_of in
     let n = g.T.Tagger.node_tag_of in
     let old = c.args.outside.now in
@@ -557,12 +558,12 @@ returns-in-Page g c =
     ∙ ap (λ (o : OutsideView g.row.B.Denot g.row.T.Denot). length o.pads.used) c.in_ok-reserve.ensures.taken ∙ ap length e.step.used in
     let write : LineWrite = record { line = c.args.line; bytes = c.args.bytes.now; counter = record { page = c.in-Page.raised; line = 0 } } in
     let up = counted_up h m d n old counters c.requires.current c.args.limit c.args.line c.page_of-page.result c.place_of-place.result c.get.new.self c.get.new.counters
-    c.in_ok-block.block c.get-2.result c.of.result had (g.met.B.Bus.unmoved c.get.new.self.bus) g.met.B.Bus.moved_on c.reserve.new.self c.bump.new.self c.bump.new.counters
+    c.in_ok-block.block c.get-2.result c.of.result had ((reaches_none g.B.Bus.moved g.met.B.Bus.unmoved) c.get.new.self.bus) (reaches_on g.B.Bus.moved g.met.B.Bus.moved_on) c.reserve.new.self c.bump.new.self c.bump.new.counters
     c.in_ok-counter.field-0 c.in_ok-reserve.ensures.taken u.moved u.idle u.pads u.geometry u.few_copies u.copies u.fits u.outcome u.block u.others in
     let p = c.reencrypt_page.ensures in
     record {
       written = page_written h m d n old counters c.requires.current c.args.limit c.args.line c.page_of-page.result c.place_of-place.result c.get.new.self c.get.new.counters
-          c.in_ok-block.block c.get-2.result c.of.result had (g.met.B.Bus.unmoved c.get.new.self.bus) g.met.B.Bus.moved_on c.reserve.new.self c.bump.new.self c.bump.new.counters
+          c.in_ok-block.block c.get-2.result c.of.result had ((reaches_none g.B.Bus.moved g.met.B.Bus.unmoved) c.get.new.self.bus) (reaches_on g.B.Bus.moved g.met.B.Bus.moved_on) c.reserve.new.self c.bump.new.self c.bump.new.counters
           c.in_ok-counter.field-0 up c.requires.started (e.read c.requires.fits) c.args.bytes.now c.in-Page.raised c.in-Page.is c.of.ensures.overflow
           c.reencrypt_page.new.self (result_err c.reencrypt_page.result) p.sealed;
       cached = λ going. subst (λ (p : ℕ). Contains (cached_pages c.bump.new.counters) p) c.page_of-page.ensures.page u.cached;
@@ -575,12 +576,12 @@ returns-in-Page g c =
           c.reencrypt_page.new.self (result_err c.reencrypt_page.result) p.sealed.sealed in
           record { beside = accepted.0; since = omega (arith, accepted.1, as_many, bumped_used) };
       once = λ quiet short. absurd (short (page_overflows h m d n old counters c.requires.current c.args.limit c.args.line c.page_of-page.result c.place_of-place.result c.get.new.self c.get.new.counters
-          c.in_ok-block.block c.get-2.result c.of.result had (g.met.B.Bus.unmoved c.get.new.self.bus) g.met.B.Bus.moved_on c.reserve.new.self c.bump.new.self c.bump.new.counters
+          c.in_ok-block.block c.get-2.result c.of.result had ((reaches_none g.B.Bus.moved g.met.B.Bus.unmoved) c.get.new.self.bus) (reaches_on g.B.Bus.moved g.met.B.Bus.moved_on) c.reserve.new.self c.bump.new.self c.bump.new.counters
           c.in_ok-counter.field-0 up c.requires.started (e.read c.requires.fits) c.args.bytes.now c.in-Page.raised c.in-Page.is c.of.ensures.overflow
           c.reencrypt_page.new.self (result_err c.reencrypt_page.result) p.sealed quiet));
       few = omega (arith, e.once, same_accesses, bumped_accesses, same_geometry, p.once);
       hit = λ cached quiet short. absurd (short (page_overflows h m d n old counters c.requires.current c.args.limit c.args.line c.page_of-page.result c.place_of-place.result c.get.new.self c.get.new.counters
-          c.in_ok-block.block c.get-2.result c.of.result had (g.met.B.Bus.unmoved c.get.new.self.bus) g.met.B.Bus.moved_on c.reserve.new.self c.bump.new.self c.bump.new.counters
+          c.in_ok-block.block c.get-2.result c.of.result had ((reaches_none g.B.Bus.moved g.met.B.Bus.unmoved) c.get.new.self.bus) (reaches_on g.B.Bus.moved g.met.B.Bus.moved_on) c.reserve.new.self c.bump.new.self c.bump.new.counters
           c.in_ok-counter.field-0 up c.requires.started (e.read c.requires.fits) c.args.bytes.now c.in-Page.raised c.in-Page.is c.of.ensures.overflow
           c.reencrypt_page.new.self (result_err c.reencrypt_page.result) p.sealed quiet));
       hit_overflow = λ cached. let same = still cached in omega (arith, same, same_accesses, bumped_accesses, p.once);

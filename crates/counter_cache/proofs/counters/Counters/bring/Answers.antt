@@ -15,6 +15,7 @@ use Rattle.cache_set.specs.declared.way.Way.{Way}
 use Rattle.cache_set.specs.CacheSet.{touched, with_latest, without}
 use Rattle.cache_set.specs.Cache.{set_at, way_at}
 use Rattle.cache_set.proofs.Listed.{listed_at}
+use Rattle.bus_model.specs.Access.{reaches_on}
 use Rattle.tag_engine.specs.TagEngine.{tags_of}
 use Rattle.bonsai_tree.specs.NodeCache.{copy_of}
 use Rattle.bonsai_tree.specs.Tree.{HoldsTree, IsFetchPlace, IsKept, PathWasRead, TreeView, path_accesses}
@@ -253,7 +254,7 @@ returns-clause-read g c = λ holds quiet uncached.
 
 pub returns-clause-moved : goal.returns-clause-moved
 returns-clause-moved g c =
-    g.met.B.Bus.moved_on c.args.bus.now c.make_room.new.bus c.fetch.new.bus c.make_room.ensures.moved c.fetch.ensures.moved
+    (reaches_on g.B.Bus.moved g.met.B.Bus.moved_on) c.args.bus.now c.make_room.new.bus c.fetch.new.bus c.make_room.ensures.moved c.fetch.ensures.moved
 
 pub returns-clause-goes : goal.returns-clause-goes
 returns-clause-goes g c = λ other goes.
@@ -330,7 +331,7 @@ returns-clause-written g c =
 
 pub returns-in_err-block-clause-moved : goal.returns-in_err-block-clause-moved
 returns-in_err-block-clause-moved g c =
-    g.met.B.Bus.moved_on c.args.bus.now c.make_room.new.bus c.fetch.new.bus c.make_room.ensures.moved c.fetch.ensures.moved
+    (reaches_on g.B.Bus.moved g.met.B.Bus.moved_on) c.args.bus.now c.make_room.new.bus c.fetch.new.bus c.make_room.ensures.moved c.fetch.ensures.moved
 
 -- a refused call leaves the page no copy
 pub returns-in_err-make_room-clause-uncached : goal.returns-in_err-make_room-clause-uncached

@@ -1,5 +1,6 @@
 use Rattle.std.proofs.Common.{◌≡◌, ◌<◌, None, ap, ◌∙◌, subst}
 use Rattle.sec_base.specs.Geometry.{GeometryView, page_count}
+use Rattle.bus_model.specs.Access.{Reaches}
 use Rattle.tag_engine.specs.TagEngine.{TagEngineView}
 use Rattle.page_reencrypt.specs.Outside.{OutsideView}
 use Rattle.page_reencrypt.proofs.NodeSteps.{fits_after, fits_before, ok_gives, ok_had_memory}
@@ -17,24 +18,24 @@ returns-clause-few_copies g c = record { blocks = λ few. c.bump.ensures.few_cop
 pub returns-clause-copies : goal.returns-clause-copies
 returns-clause-copies g c = λ fits quiet.
     let old : OutsideView g.row.B.Denot g.row.T.Denot = record { bus = c.self.inside.bus; engine = c.self.inside.tags; pads = c.self.inside.pads } in
-    let was = fits_before g.B.Bus.history g.B.Bus.moved g.T.Tagger.data_tag_of g.T.Tagger.node_tag_of old c.bump.new.bus c.bump.new.tags c.args.counters.now
+    let was = fits_before g.B.Bus.history (Reaches g.B.Bus.moved) g.T.Tagger.data_tag_of g.T.Tagger.node_tag_of old c.bump.new.bus c.bump.new.tags c.args.counters.now
     (rw (← c.self.view_is) at fits) in
     rw (← c.self.view_is) (record { blocks = c.bump.ensures.new_copies was quiet; nodes = c.bump.ensures.new_nodes was quiet })
 
 pub returns-clause-fits : goal.returns-clause-fits
 returns-clause-fits g c = λ fits.
     let old : OutsideView g.row.B.Denot g.row.T.Denot = record { bus = c.self.inside.bus; engine = c.self.inside.tags; pads = c.self.inside.pads } in
-    let was = fits_before g.B.Bus.history g.B.Bus.moved g.T.Tagger.data_tag_of g.T.Tagger.node_tag_of old c.bump.new.bus c.bump.new.tags c.args.counters.now
+    let was = fits_before g.B.Bus.history (Reaches g.B.Bus.moved) g.T.Tagger.data_tag_of g.T.Tagger.node_tag_of old c.bump.new.bus c.bump.new.tags c.args.counters.now
     (rw (← c.self.view_is) at fits) in
     let step = c.bump.ensures in
     rw (← c.self.view_is)
-    (fits_after g.B.Bus.history g.B.Bus.moved g.T.Tagger.data_tag_of g.T.Tagger.node_tag_of old c.bump.new.bus c.bump.new.tags c.bump.new.self
+    (fits_after g.B.Bus.history (Reaches g.B.Bus.moved) g.T.Tagger.data_tag_of g.T.Tagger.node_tag_of old c.bump.new.bus c.bump.new.tags c.bump.new.self
     step.moves.tagger step.moves.geometry (ok_gives c.bump.result (step.hit c.requires.cached) (ok_had_memory c.bump.result (step.holds was))))
 
 pub returns-clause-outcome : goal.returns-clause-outcome
 returns-clause-outcome g c = λ fits quiet.
     let old : OutsideView g.row.B.Denot g.row.T.Denot = record { bus = c.self.inside.bus; engine = c.self.inside.tags; pads = c.self.inside.pads } in
-    let was = fits_before g.B.Bus.history g.B.Bus.moved g.T.Tagger.data_tag_of g.T.Tagger.node_tag_of old c.bump.new.bus c.bump.new.tags c.args.counters.now
+    let was = fits_before g.B.Bus.history (Reaches g.B.Bus.moved) g.T.Tagger.data_tag_of g.T.Tagger.node_tag_of old c.bump.new.bus c.bump.new.tags c.args.counters.now
     (rw (← c.self.view_is) at fits) in
     let still : c.bump.new.tags.evidence ≡ None =
     ap (λ (e : TagEngineView g.row.T.Denot). e.evidence) (c.bump.ensures.idle c.requires.cached).1 ∙ (rw (← c.self.view_is) at quiet) in
@@ -43,7 +44,7 @@ returns-clause-outcome g c = λ fits quiet.
 pub returns-clause-block : goal.returns-clause-block
 returns-clause-block g c = λ fits quiet.
     let old : OutsideView g.row.B.Denot g.row.T.Denot = record { bus = c.self.inside.bus; engine = c.self.inside.tags; pads = c.self.inside.pads } in
-    let was = fits_before g.B.Bus.history g.B.Bus.moved g.T.Tagger.data_tag_of g.T.Tagger.node_tag_of old c.bump.new.bus c.bump.new.tags c.args.counters.now
+    let was = fits_before g.B.Bus.history (Reaches g.B.Bus.moved) g.T.Tagger.data_tag_of g.T.Tagger.node_tag_of old c.bump.new.bus c.bump.new.tags c.args.counters.now
     (rw (← c.self.view_is) at fits) in
     let still : c.bump.new.tags.evidence ≡ None =
     ap (λ (e : TagEngineView g.row.T.Denot). e.evidence) (c.bump.ensures.idle c.requires.cached).1 ∙ (rw (← c.self.view_is) at quiet) in
@@ -52,7 +53,7 @@ returns-clause-block g c = λ fits quiet.
 pub returns-clause-others : goal.returns-clause-others
 returns-clause-others g c = λ fits quiet other differs.
     let old : OutsideView g.row.B.Denot g.row.T.Denot = record { bus = c.self.inside.bus; engine = c.self.inside.tags; pads = c.self.inside.pads } in
-    let was = fits_before g.B.Bus.history g.B.Bus.moved g.T.Tagger.data_tag_of g.T.Tagger.node_tag_of old c.bump.new.bus c.bump.new.tags c.args.counters.now
+    let was = fits_before g.B.Bus.history (Reaches g.B.Bus.moved) g.T.Tagger.data_tag_of g.T.Tagger.node_tag_of old c.bump.new.bus c.bump.new.tags c.args.counters.now
     (rw (← c.self.view_is) at fits) in
     let still : c.bump.new.tags.evidence ≡ None =
     ap (λ (e : TagEngineView g.row.T.Denot). e.evidence) (c.bump.ensures.idle c.requires.cached).1 ∙ (rw (← c.self.view_is) at quiet) in

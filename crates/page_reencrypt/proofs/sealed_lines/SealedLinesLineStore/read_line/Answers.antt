@@ -4,6 +4,7 @@ use Rattle.std.specs.Result.{result_err}
 use Rattle.sec_base.specs.Geometry.{line_count, page_of}
 use Rattle.sec_base.specs.declared.stop.MemStop.{MemStop}
 use Rattle.sec_base.proofs.Results.{was_none}
+use Rattle.bus_model.specs.Access.{Reaches, reaches_none}
 use Rattle.tag_engine.specs.TagEngine.{tags_of}
 use Rattle.page_reencrypt.specs.LineMoves.{ReadMoved}
 use Rattle.page_reencrypt.specs.SealedLines.{SealedLinesView}
@@ -16,8 +17,8 @@ use Rattle.page_reencrypt.proofs.sealed_lines.SealedLinesLineStore.read_line.Goa
 pub returns-in-Some-clause-moved : goal.returns-in-Some-clause-moved
 returns-in-Some-clause-moved g c =
     let tags = tags_of g.T.Tagger.data_tag_of g.T.Tagger.node_tag_of in
-    subst (λ (seen : SealedLinesView g.row.B.Denot g.row.T.Denot). ReadMoved g.B.Bus.history g.B.Bus.moved tags seen c.args.line (Err c.in-Some.stop) seen) c.self.view_is
-    (lasting_read g.B.Bus.history g.B.Bus.moved tags g.met.B.Bus.unmoved
+    subst (λ (seen : SealedLinesView g.row.B.Denot g.row.T.Denot). ReadMoved g.B.Bus.history (Reaches g.B.Bus.moved) tags seen c.args.line (Err c.in-Some.stop) seen) c.self.view_is
+    (lasting_read g.B.Bus.history (Reaches g.B.Bus.moved) tags (reaches_none g.B.Bus.moved g.met.B.Bus.unmoved)
     (sealed_lines_view c.self.inside) c.args.line c.in-Some.stop (sym c.lasting.ensures ∙ c.in-Some.is))
 
 pub returns-in-Some-clause-unsealed : goal.returns-in-Some-clause-unsealed
@@ -42,7 +43,7 @@ invariant_of-self g c =
     c.or-self-inside.ensures ∙ ap (λ (o : Option MemStop). option_or o lines.stopped) c.err.ensures.value in
     let r = c.read_at-read.ensures.read in (
       c.self.invariant.0 ∙ sym r.step.geometry,
-      read_kept g.T.Tagger.data_tag_of g.T.Tagger.node_tag_of g.B.Bus.history g.B.Bus.moved lines c.args.line c.self.invariant.1 going inside new counters
+      read_kept g.T.Tagger.data_tag_of g.T.Tagger.node_tag_of g.B.Bus.history (Reaches g.B.Bus.moved) lines c.args.line c.self.invariant.1 going inside new counters
           c.read_at-read.result c.read_at-read.ensures.read c.or-self-inside.result stops c.read_at-read.ensures.pages,
     )
 
@@ -67,7 +68,7 @@ returns-clause-contents g c =
     let going : lasting_stop lines.stopped ≡ None = sym c.lasting.ensures ∙ c.in_default.is in
     let stops : c.or-self-inside.result ≡ option_or (result_err c.read_at-read.result) lines.stopped =
     c.or-self-inside.ensures ∙ ap (λ (o : Option MemStop). option_or o lines.stopped) c.err.ensures.value in
-    rw (← c.self.view_is) (read_contents g.T.Tagger.data_tag_of g.T.Tagger.node_tag_of g.B.Bus.history g.B.Bus.moved lines c.args.line c.self.invariant.1 going inside new counters
+    rw (← c.self.view_is) (read_contents g.T.Tagger.data_tag_of g.T.Tagger.node_tag_of g.B.Bus.history (Reaches g.B.Bus.moved) lines c.args.line c.self.invariant.1 going inside new counters
     c.read_at-read.result c.read_at-read.ensures.read c.or-self-inside.result stops)
 
 pub returns-clause-moved : goal.returns-clause-moved
@@ -79,7 +80,7 @@ returns-clause-moved g c =
     let going : lasting_stop lines.stopped ≡ None = sym c.lasting.ensures ∙ c.in_default.is in
     let stops : c.or-self-inside.result ≡ option_or (result_err c.read_at-read.result) lines.stopped =
     c.or-self-inside.ensures ∙ ap (λ (o : Option MemStop). option_or o lines.stopped) c.err.ensures.value in
-    rw (← c.self.view_is) (read_moved g.T.Tagger.data_tag_of g.T.Tagger.node_tag_of g.B.Bus.history g.B.Bus.moved lines c.args.line c.self.invariant.1 going inside new counters
+    rw (← c.self.view_is) (read_moved g.T.Tagger.data_tag_of g.T.Tagger.node_tag_of g.B.Bus.history (Reaches g.B.Bus.moved) lines c.args.line c.self.invariant.1 going inside new counters
     c.read_at-read.result c.read_at-read.ensures.read c.or-self-inside.result stops c.read_at-read.ensures.pages c.read_at-read.ensures.cached)
 
 pub returns-clause-unsealed : goal.returns-clause-unsealed
@@ -91,7 +92,7 @@ returns-clause-unsealed g c =
     let going : lasting_stop lines.stopped ≡ None = sym c.lasting.ensures ∙ c.in_default.is in
     let stops : c.or-self-inside.result ≡ option_or (result_err c.read_at-read.result) lines.stopped =
     c.or-self-inside.ensures ∙ ap (λ (o : Option MemStop). option_or o lines.stopped) c.err.ensures.value in
-    rw (← c.self.view_is) (read_unsealed g.T.Tagger.data_tag_of g.T.Tagger.node_tag_of g.B.Bus.history g.B.Bus.moved lines c.args.line c.self.invariant.1 going inside new counters
+    rw (← c.self.view_is) (read_unsealed g.T.Tagger.data_tag_of g.T.Tagger.node_tag_of g.B.Bus.history (Reaches g.B.Bus.moved) lines c.args.line c.self.invariant.1 going inside new counters
     c.read_at-read.result c.read_at-read.ensures.read c.or-self-inside.result stops)
 
 pub returns-clause-same_counters : goal.returns-clause-same_counters
@@ -106,7 +107,7 @@ returns-clause-fits g c =
     let going : lasting_stop lines.stopped ≡ None = sym c.lasting.ensures ∙ c.in_default.is in
     let stops : c.or-self-inside.result ≡ option_or (result_err c.read_at-read.result) lines.stopped =
     c.or-self-inside.ensures ∙ ap (λ (o : Option MemStop). option_or o lines.stopped) c.err.ensures.value in
-    (read_kept g.T.Tagger.data_tag_of g.T.Tagger.node_tag_of g.B.Bus.history g.B.Bus.moved lines c.args.line c.self.invariant.1 going inside new counters
+    (read_kept g.T.Tagger.data_tag_of g.T.Tagger.node_tag_of g.B.Bus.history (Reaches g.B.Bus.moved) lines c.args.line c.self.invariant.1 going inside new counters
     c.read_at-read.result c.read_at-read.ensures.read c.or-self-inside.result stops c.read_at-read.ensures.pages).fits
 
 pub returns-clause-accepted : goal.returns-clause-accepted

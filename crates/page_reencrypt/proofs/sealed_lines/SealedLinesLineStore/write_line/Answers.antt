@@ -4,6 +4,7 @@ use Rattle.std.specs.Result.{result_err}
 use Rattle.sec_base.specs.Geometry.{line_count, page_of}
 use Rattle.sec_base.specs.declared.stop.MemStop.{MemStop}
 use Rattle.sec_base.proofs.Results.{on_success}
+use Rattle.bus_model.specs.Access.{Reaches, reaches_none}
 use Rattle.tag_engine.specs.TagEngine.{tags_of}
 use Rattle.page_reencrypt.specs.LineMoves.{WriteMoved}
 use Rattle.page_reencrypt.specs.SealedLines.{SealedLinesView}
@@ -19,8 +20,8 @@ pub returns-in-Some-clause-moved : goal.returns-in-Some-clause-moved
 returns-in-Some-clause-moved g c =
     let tags = tags_of g.T.Tagger.data_tag_of g.T.Tagger.node_tag_of in
     subst (λ (seen : SealedLinesView g.row.B.Denot g.row.T.Denot).
-    WriteMoved g.B.Bus.history g.B.Bus.moved tags seen c.args.line c.args.bytes.now (Err c.in-Some.stop) seen) c.self.view_is
-    (lasting_write g.B.Bus.history g.B.Bus.moved tags g.met.B.Bus.unmoved
+    WriteMoved g.B.Bus.history (Reaches g.B.Bus.moved) tags seen c.args.line c.args.bytes.now (Err c.in-Some.stop) seen) c.self.view_is
+    (lasting_write g.B.Bus.history (Reaches g.B.Bus.moved) tags (reaches_none g.B.Bus.moved g.met.B.Bus.unmoved)
     (sealed_lines_view c.self.inside) c.args.line c.args.bytes.now c.in-Some.stop (sym c.lasting.ensures ∙ c.in-Some.is))
 
 pub returns-in-Some-clause-sealed_in_part : goal.returns-in-Some-clause-sealed_in_part
@@ -49,7 +50,7 @@ invariant_of-self g c =
     c.or-self-inside.ensures ∙ ap (λ (o : Option MemStop). option_or o lines.stopped) c.err.ensures.value in
     let w = c.write_next-written.ensures.written in (
       c.self.invariant.0 ∙ sym w.step.geometry,
-      write_kept g.T.Tagger.data_tag_of g.T.Tagger.node_tag_of g.B.Bus.history g.B.Bus.moved lines c.args.line c.args.bytes.now c.self.invariant.1 going inside new counters
+      write_kept g.T.Tagger.data_tag_of g.T.Tagger.node_tag_of g.B.Bus.history (Reaches g.B.Bus.moved) lines c.args.line c.args.bytes.now c.self.invariant.1 going inside new counters
           c.write_next-written.result c.write_next-written.ensures.written c.or-self-inside.result stops c.write_next-written.ensures.pages,
     )
 
@@ -62,7 +63,7 @@ returns-clause-fits g c =
     let going : lasting_stop lines.stopped ≡ None = sym c.lasting.ensures ∙ c.in_default.is in
     let stops : c.or-self-inside.result ≡ option_or (result_err c.write_next-written.result) lines.stopped =
     c.or-self-inside.ensures ∙ ap (λ (o : Option MemStop). option_or o lines.stopped) c.err.ensures.value in
-    (write_kept g.T.Tagger.data_tag_of g.T.Tagger.node_tag_of g.B.Bus.history g.B.Bus.moved lines c.args.line c.args.bytes.now c.self.invariant.1 going inside new counters
+    (write_kept g.T.Tagger.data_tag_of g.T.Tagger.node_tag_of g.B.Bus.history (Reaches g.B.Bus.moved) lines c.args.line c.args.bytes.now c.self.invariant.1 going inside new counters
     c.write_next-written.result c.write_next-written.ensures.written c.or-self-inside.result stops c.write_next-written.ensures.pages).fits
 
 pub returns-clause-stored : goal.returns-clause-stored
@@ -74,7 +75,7 @@ returns-clause-stored g c = λ _ quiet.
     let going : lasting_stop lines.stopped ≡ None = sym c.lasting.ensures ∙ c.in_default.is in
     let stops : c.or-self-inside.result ≡ option_or (result_err c.write_next-written.result) lines.stopped =
     c.or-self-inside.ensures ∙ ap (λ (o : Option MemStop). option_or o lines.stopped) c.err.ensures.value in
-    rw (← c.self.view_is) (write_stored g.T.Tagger.data_tag_of g.T.Tagger.node_tag_of g.B.Bus.history g.B.Bus.moved lines c.args.line c.args.bytes.now c.self.invariant.1 going inside new counters
+    rw (← c.self.view_is) (write_stored g.T.Tagger.data_tag_of g.T.Tagger.node_tag_of g.B.Bus.history (Reaches g.B.Bus.moved) lines c.args.line c.args.bytes.now c.self.invariant.1 going inside new counters
     c.write_next-written.result c.write_next-written.ensures.written c.or-self-inside.result stops quiet)
 
 pub returns-clause-refused : goal.returns-clause-refused
@@ -86,7 +87,7 @@ returns-clause-refused g c = λ _ quiet.
     let going : lasting_stop lines.stopped ≡ None = sym c.lasting.ensures ∙ c.in_default.is in
     let stops : c.or-self-inside.result ≡ option_or (result_err c.write_next-written.result) lines.stopped =
     c.or-self-inside.ensures ∙ ap (λ (o : Option MemStop). option_or o lines.stopped) c.err.ensures.value in
-    rw (← c.self.view_is) (write_refused g.T.Tagger.data_tag_of g.T.Tagger.node_tag_of g.B.Bus.history g.B.Bus.moved lines c.args.line c.args.bytes.now c.self.invariant.1 going inside new counters
+    rw (← c.self.view_is) (write_refused g.T.Tagger.data_tag_of g.T.Tagger.node_tag_of g.B.Bus.history (Reaches g.B.Bus.moved) lines c.args.line c.args.bytes.now c.self.invariant.1 going inside new counters
     c.write_next-written.result c.write_next-written.ensures.written c.or-self-inside.result stops quiet)
 
 pub returns-clause-reread : goal.returns-clause-reread
@@ -98,7 +99,7 @@ returns-clause-reread g c = λ quiet.
     let going : lasting_stop lines.stopped ≡ None = sym c.lasting.ensures ∙ c.in_default.is in
     let stops : c.or-self-inside.result ≡ option_or (result_err c.write_next-written.result) lines.stopped =
     c.or-self-inside.ensures ∙ ap (λ (o : Option MemStop). option_or o lines.stopped) c.err.ensures.value in
-    rw (← c.self.view_is) (write_reread g.T.Tagger.data_tag_of g.T.Tagger.node_tag_of g.B.Bus.history g.B.Bus.moved lines c.args.line c.args.bytes.now c.self.invariant.1 going inside new counters
+    rw (← c.self.view_is) (write_reread g.T.Tagger.data_tag_of g.T.Tagger.node_tag_of g.B.Bus.history (Reaches g.B.Bus.moved) lines c.args.line c.args.bytes.now c.self.invariant.1 going inside new counters
     c.write_next-written.result c.write_next-written.ensures.written c.or-self-inside.result stops quiet)
 
 pub returns-clause-moved : goal.returns-clause-moved
@@ -110,7 +111,7 @@ returns-clause-moved g c =
     let going : lasting_stop lines.stopped ≡ None = sym c.lasting.ensures ∙ c.in_default.is in
     let stops : c.or-self-inside.result ≡ option_or (result_err c.write_next-written.result) lines.stopped =
     c.or-self-inside.ensures ∙ ap (λ (o : Option MemStop). option_or o lines.stopped) c.err.ensures.value in
-    rw (← c.self.view_is) (write_moved g.T.Tagger.data_tag_of g.T.Tagger.node_tag_of g.B.Bus.history g.B.Bus.moved lines c.args.line c.args.bytes.now c.self.invariant.1 going inside new counters
+    rw (← c.self.view_is) (write_moved g.T.Tagger.data_tag_of g.T.Tagger.node_tag_of g.B.Bus.history (Reaches g.B.Bus.moved) lines c.args.line c.args.bytes.now c.self.invariant.1 going inside new counters
     c.write_next-written.result c.write_next-written.ensures.written c.or-self-inside.result stops c.write_next-written.ensures.pages c.write_next-written.ensures.cached c.write_next-written.ensures.once c.write_next-written.ensures.few c.write_next-written.ensures.hit c.write_next-written.ensures.hit_overflow
     c.write_next-written.ensures.accepted)
 
@@ -123,7 +124,7 @@ returns-clause-sealed g c =
     let going : lasting_stop lines.stopped ≡ None = sym c.lasting.ensures ∙ c.in_default.is in
     let stops : c.or-self-inside.result ≡ option_or (result_err c.write_next-written.result) lines.stopped =
     c.or-self-inside.ensures ∙ ap (λ (o : Option MemStop). option_or o lines.stopped) c.err.ensures.value in
-    rw (← c.self.view_is) (write_sealed g.T.Tagger.data_tag_of g.T.Tagger.node_tag_of g.B.Bus.history g.B.Bus.moved lines c.args.line c.args.bytes.now c.self.invariant.1 going inside new counters
+    rw (← c.self.view_is) (write_sealed g.T.Tagger.data_tag_of g.T.Tagger.node_tag_of g.B.Bus.history (Reaches g.B.Bus.moved) lines c.args.line c.args.bytes.now c.self.invariant.1 going inside new counters
     c.write_next-written.result c.write_next-written.ensures.written c.or-self-inside.result stops)
 
 pub returns-clause-sealed_in_part : goal.returns-clause-sealed_in_part
@@ -135,7 +136,7 @@ returns-clause-sealed_in_part g c =
     let going : lasting_stop lines.stopped ≡ None = sym c.lasting.ensures ∙ c.in_default.is in
     let stops : c.or-self-inside.result ≡ option_or (result_err c.write_next-written.result) lines.stopped =
     c.or-self-inside.ensures ∙ ap (λ (o : Option MemStop). option_or o lines.stopped) c.err.ensures.value in
-    rw (← c.self.view_is) (write_sealed_in_part g.T.Tagger.data_tag_of g.T.Tagger.node_tag_of g.B.Bus.history g.B.Bus.moved lines c.args.line c.args.bytes.now c.self.invariant.1 going inside new counters
+    rw (← c.self.view_is) (write_sealed_in_part g.T.Tagger.data_tag_of g.T.Tagger.node_tag_of g.B.Bus.history (Reaches g.B.Bus.moved) lines c.args.line c.args.bytes.now c.self.invariant.1 going inside new counters
     c.write_next-written.result c.write_next-written.ensures.written c.or-self-inside.result stops)
 
 pub returns-clause-reserved : goal.returns-clause-reserved
@@ -147,7 +148,7 @@ returns-clause-reserved g c =
     let going : lasting_stop lines.stopped ≡ None = sym c.lasting.ensures ∙ c.in_default.is in
     let stops : c.or-self-inside.result ≡ option_or (result_err c.write_next-written.result) lines.stopped =
     c.or-self-inside.ensures ∙ ap (λ (o : Option MemStop). option_or o lines.stopped) c.err.ensures.value in
-    rw (← c.self.view_is) (write_reserved g.T.Tagger.data_tag_of g.T.Tagger.node_tag_of g.B.Bus.history g.B.Bus.moved lines c.args.line c.args.bytes.now c.self.invariant.1 going inside new counters
+    rw (← c.self.view_is) (write_reserved g.T.Tagger.data_tag_of g.T.Tagger.node_tag_of g.B.Bus.history (Reaches g.B.Bus.moved) lines c.args.line c.args.bytes.now c.self.invariant.1 going inside new counters
     c.write_next-written.result c.write_next-written.ensures.written c.or-self-inside.result stops)
 
 pub returns-clause-path : goal.returns-clause-path
@@ -164,7 +165,7 @@ returns-clause-spent g c = λ _ quiet is.
     let going : lasting_stop lines.stopped ≡ None = sym c.lasting.ensures ∙ c.in_default.is in
     let stops : c.or-self-inside.result ≡ option_or (result_err c.write_next-written.result) lines.stopped =
     c.or-self-inside.ensures ∙ ap (λ (o : Option MemStop). option_or o lines.stopped) c.err.ensures.value in
-    rw (← c.self.view_is) (write_spent_last g.T.Tagger.data_tag_of g.T.Tagger.node_tag_of g.B.Bus.history g.B.Bus.moved lines c.args.line c.args.bytes.now c.self.invariant.1 going inside new counters
+    rw (← c.self.view_is) (write_spent_last g.T.Tagger.data_tag_of g.T.Tagger.node_tag_of g.B.Bus.history (Reaches g.B.Bus.moved) lines c.args.line c.args.bytes.now c.self.invariant.1 going inside new counters
     c.write_next-written.result c.write_next-written.ensures.written c.or-self-inside.result stops quiet is)
 
 pub returns-clause-used_up : goal.returns-clause-used_up
@@ -176,7 +177,7 @@ returns-clause-used_up g c = λ _ quiet last.
     let going : lasting_stop lines.stopped ≡ None = sym c.lasting.ensures ∙ c.in_default.is in
     let stops : c.or-self-inside.result ≡ option_or (result_err c.write_next-written.result) lines.stopped =
     c.or-self-inside.ensures ∙ ap (λ (o : Option MemStop). option_or o lines.stopped) c.err.ensures.value in
-    rw (← c.self.view_is) (write_used_up g.T.Tagger.data_tag_of g.T.Tagger.node_tag_of g.B.Bus.history g.B.Bus.moved lines c.args.line c.args.bytes.now c.self.invariant.1 going inside new counters
+    rw (← c.self.view_is) (write_used_up g.T.Tagger.data_tag_of g.T.Tagger.node_tag_of g.B.Bus.history (Reaches g.B.Bus.moved) lines c.args.line c.args.bytes.now c.self.invariant.1 going inside new counters
     c.write_next-written.result c.write_next-written.ensures.written c.or-self-inside.result stops quiet (rw (← c.self.view_is) at last))
 
 pub returns-clause-spent_stays : goal.returns-clause-spent_stays
@@ -188,7 +189,7 @@ returns-clause-spent_stays g c = λ page is.
     let going : lasting_stop lines.stopped ≡ None = sym c.lasting.ensures ∙ c.in_default.is in
     let stops : c.or-self-inside.result ≡ option_or (result_err c.write_next-written.result) lines.stopped =
     c.or-self-inside.ensures ∙ ap (λ (o : Option MemStop). option_or o lines.stopped) c.err.ensures.value in
-    rw (← c.self.view_is) (write_spent g.T.Tagger.data_tag_of g.T.Tagger.node_tag_of g.B.Bus.history g.B.Bus.moved lines c.args.line c.args.bytes.now c.self.invariant.1 going inside new counters
+    rw (← c.self.view_is) (write_spent g.T.Tagger.data_tag_of g.T.Tagger.node_tag_of g.B.Bus.history (Reaches g.B.Bus.moved) lines c.args.line c.args.bytes.now c.self.invariant.1 going inside new counters
     c.write_next-written.result c.write_next-written.ensures.written c.or-self-inside.result stops page is)
 
 pub returns-clause-tampered : goal.returns-clause-tampered
@@ -200,7 +201,7 @@ returns-clause-tampered g c = λ place _ is.
     let going : lasting_stop lines.stopped ≡ None = sym c.lasting.ensures ∙ c.in_default.is in
     let stops : c.or-self-inside.result ≡ option_or (result_err c.write_next-written.result) lines.stopped =
     c.or-self-inside.ensures ∙ ap (λ (o : Option MemStop). option_or o lines.stopped) c.err.ensures.value in
-    rw (← c.self.view_is) (write_tampered g.T.Tagger.data_tag_of g.T.Tagger.node_tag_of g.B.Bus.history g.B.Bus.moved lines c.args.line c.args.bytes.now c.self.invariant.1 going inside new counters
+    rw (← c.self.view_is) (write_tampered g.T.Tagger.data_tag_of g.T.Tagger.node_tag_of g.B.Bus.history (Reaches g.B.Bus.moved) lines c.args.line c.args.bytes.now c.self.invariant.1 going inside new counters
     c.write_next-written.result c.write_next-written.ensures.written c.or-self-inside.result stops place is)
 
 pub returns-clause-untampered : goal.returns-clause-untampered
@@ -212,7 +213,7 @@ returns-clause-untampered g c = λ other _ quiet short.
     let going : lasting_stop lines.stopped ≡ None = sym c.lasting.ensures ∙ c.in_default.is in
     let stops : c.or-self-inside.result ≡ option_or (result_err c.write_next-written.result) lines.stopped =
     c.or-self-inside.ensures ∙ ap (λ (o : Option MemStop). option_or o lines.stopped) c.err.ensures.value in
-    write_untampered g.T.Tagger.data_tag_of g.T.Tagger.node_tag_of g.B.Bus.history g.B.Bus.moved lines c.args.line c.args.bytes.now c.self.invariant.1 going inside new counters
+    write_untampered g.T.Tagger.data_tag_of g.T.Tagger.node_tag_of g.B.Bus.history (Reaches g.B.Bus.moved) lines c.args.line c.args.bytes.now c.self.invariant.1 going inside new counters
     c.write_next-written.result c.write_next-written.ensures.written c.or-self-inside.result stops other quiet (rw (← c.self.view_is) at short)
 
 pub returns-clause-last_untampered : goal.returns-clause-last_untampered
@@ -224,7 +225,7 @@ returns-clause-last_untampered g c = λ other _ quiet last.
     let going : lasting_stop lines.stopped ≡ None = sym c.lasting.ensures ∙ c.in_default.is in
     let stops : c.or-self-inside.result ≡ option_or (result_err c.write_next-written.result) lines.stopped =
     c.or-self-inside.ensures ∙ ap (λ (o : Option MemStop). option_or o lines.stopped) c.err.ensures.value in
-    write_last_untampered g.T.Tagger.data_tag_of g.T.Tagger.node_tag_of g.B.Bus.history g.B.Bus.moved lines c.args.line c.args.bytes.now c.self.invariant.1 going inside new counters
+    write_last_untampered g.T.Tagger.data_tag_of g.T.Tagger.node_tag_of g.B.Bus.history (Reaches g.B.Bus.moved) lines c.args.line c.args.bytes.now c.self.invariant.1 going inside new counters
     c.write_next-written.result c.write_next-written.ensures.written c.or-self-inside.result stops other quiet (rw (← c.self.view_is) at last)
 
 pub returns-clause-failed : goal.returns-clause-failed
@@ -236,14 +237,14 @@ returns-clause-failed g c = λ other _ quiet is.
     let going : lasting_stop lines.stopped ≡ None = sym c.lasting.ensures ∙ c.in_default.is in
     let stops : c.or-self-inside.result ≡ option_or (result_err c.write_next-written.result) lines.stopped =
     c.or-self-inside.ensures ∙ ap (λ (o : Option MemStop). option_or o lines.stopped) c.err.ensures.value in
-    rw (← c.self.view_is) (write_failed g.T.Tagger.data_tag_of g.T.Tagger.node_tag_of g.B.Bus.history g.B.Bus.moved lines c.args.line c.args.bytes.now c.self.invariant.1 going inside new counters
+    rw (← c.self.view_is) (write_failed g.T.Tagger.data_tag_of g.T.Tagger.node_tag_of g.B.Bus.history (Reaches g.B.Bus.moved) lines c.args.line c.args.bytes.now c.self.invariant.1 going inside new counters
     c.write_next-written.result c.write_next-written.ensures.written c.or-self-inside.result stops other quiet is)
 
 pub write_next-written-requires-clause-limited : goal.write_next-written-requires-clause-limited
 write_next-written-requires-clause-limited g c =
     let lines = sealed_lines_view c.self.inside in
     let going : lasting_stop lines.stopped ≡ None = sym c.lasting.ensures ∙ c.in_default.is in
-    kept_limited g.T.Tagger.data_tag_of g.T.Tagger.node_tag_of g.B.Bus.history g.B.Bus.moved lines c.self.invariant.1 going c.args.line
+    kept_limited g.T.Tagger.data_tag_of g.T.Tagger.node_tag_of g.B.Bus.history (Reaches g.B.Bus.moved) lines c.self.invariant.1 going c.args.line
     (rw (← c.self.view_is) at c.requires.inside)
 
 pub returns-clause-hit : goal.returns-clause-hit
