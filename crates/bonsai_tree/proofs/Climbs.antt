@@ -26,7 +26,7 @@ use Rattle.checked_bus.proofs.Writes.{none_more, writes_not, writes_on}
 use Rattle.bonsai_tree.specs.Climb.{Climbs}
 use Rattle.bonsai_tree.specs.Node.{CachedNode}
 use Rattle.bonsai_tree.specs.NodeCache.{AreNodeCaches, level_cache}
-use Rattle.bonsai_tree.specs.Tree.{HoldsTree, IsNodeFrom, NodeCame, NodesAreMade, NodesHoldLast, SlotsAreTags, TreeView, WasReadUp, above, cached_node}
+use Rattle.bonsai_tree.specs.Tree.{CameUnlessHeld, HoldsTree, IsNodeFrom, NodeCame, NodesAreMade, NodesHoldLast, SlotsAreTags, TreeView, WasReadUp, above, cached_node}
 use Rattle.bonsai_tree.proofs.Nodes.{same_tags, some_not_none}
 
 -- Which nodes were read
@@ -94,6 +94,25 @@ pub came_after : (made made' : List Message) (level index : ℕ) (first second t
     NodeCame made level index first third
 came_after made made' level index first second third before unmade (inl none) = inl (unmade none)
 came_after made made' level index first second third before unmade (inr rose) = inr (omega (arith, rose, before (node_place level index)))
+
+-- what has a copy came by two calls, unless it was held over both
+pub unless_held_on : (tree mid tree' : TreeView) (made made' made'' : List Message) (first second third : BusHistory) →
+    ((place : Place) → RoseBy 0 (first.reads place) (second.reads place)) → ((place : Place) → RoseBy 0 (second.reads place) (third.reads place)) →
+    CameUnlessHeld tree first made mid second made' → CameUnlessHeld mid second made' tree' third made'' → CameUnlessHeld tree first made tree' third made''
+unless_held_on tree mid tree' made made' made'' first second third before after came more = λ level index held.
+    elim (more level index held) [
+      | inr late ↦ elim late [
+        | inl none ↦ inr (inl none)
+        | inr rose ↦ inr (inr (omega (arith, rose, before (node_place level index))))
+      ]
+      | inl was ↦ elim (came level index was.0) [
+        | inl first_held ↦ inl (first_held.0, was.1 ∙ first_held.1)
+        | inr early ↦ elim early [
+          | inl none ↦ inr (inl (was.1 ∙ none))
+          | inr rose ↦ inr (inr (omega (arith, rose, after (node_place level index))))
+        ]
+      ]
+    ]
 
 pub read_up_on : (tree mid : TreeView) (made made' : List Message) (level index : ℕ) (first second third : BusHistory) → mid.geometry ≡ tree.geometry →
     ((place : Place) → RoseBy 0 (first.reads place) (second.reads place)) → ((place : Place) → RoseBy 0 (second.reads place) (third.reads place)) →

@@ -25,7 +25,7 @@ use Rattle.checked_bus.specs.Steps.{Moves, unwritten_in}
 use Rattle.bonsai_tree.specs.Climb.{Climbs, IsBlockOf, IsVictim, NoNode, WritesUp}
 use Rattle.bonsai_tree.specs.Node.{CachedNode, times_made, unread_count}
 use Rattle.bonsai_tree.specs.NodeCache.{copy_of}
-use Rattle.bonsai_tree.specs.Tree.{EndsQuietly, HasChild, IsCopyAfter, NodeCame, TreeView, cached_node}
+use Rattle.bonsai_tree.specs.Tree.{CameUnlessHeld, EndsQuietly, HasChild, IsCopyAfter, NodeCame, TreeView, WritesBack, cached_node}
 use Rattle.bonsai_tree.proofs.Climbs.{came_after, came_before, unmade_before}
 use Rattle.bonsai_tree.proofs.Nodes.{SameNode, same_or_not}
 use Rattle.bonsai_tree.proofs.NodeCalls.{held_copy}
@@ -518,3 +518,37 @@ up_victim quiet level way tree mid tree' old new made made' stop stays held besi
           omega (arith, victim.0.0, low);
       once = λ other at low. up.once other at (omega (arith, low));
     }
+
+-- What has a copy came, unless it was held
+
+kept_or_came : (found : Option CachedNode) (last last' : Option (List ℕ)) (made unwritten reads reads' : ℕ) → made ≡ 0 → unwritten ≡ 0 → last' ≡ last →
+    RoseBy (made + 1 - (unread_count found last + unwritten)) reads reads' → ((found ≢ None) × (last' ≡ last)) ⊎ ((last' ≡ None) ⊎ Rose reads reads')
+kept_or_came (Some copy) last last' made unwritten reads reads' none written same rose = inl (λ (gone : Some copy ≡ None). cc, same)
+kept_or_came None None last' made unwritten reads reads' none written same rose = inr (inl same)
+kept_or_came None (Some block) last' made unwritten reads reads' none written same rose = inr (inr (omega (arith, none, written, rose)))
+
+held_or_came : (found found' : Option CachedNode) (last last' : Option (List ℕ)) (made unwritten reads reads' : ℕ) → found' ≢ None → unwritten ≡ 0 →
+    (made ≡ 0 → last' ≡ last) → RoseBy (made + unread_count found' last' - (unread_count found last + unwritten)) reads reads' →
+    ((found ≢ None) × (last' ≡ last)) ⊎ ((last' ≡ None) ⊎ Rose reads reads')
+held_or_came found None last last' made unwritten reads reads' held written same rose = absurd (held refl)
+held_or_came found (Some copy) last last' made unwritten reads reads' held written same rose =
+    elim (cases_lt 0 made) [
+      | inl some ↦ inr (inr (omega (arith, some, written, rose, one_count found last)))
+      | inr few ↦
+          let none : made ≡ 0 = omega (arith, few) in
+          kept_or_came found last last' made unwritten reads reads' none written (same none) rose
+    ]
+
+all_written : (stop : Option MemStop) → stop ≢ Some NoMemory → unwritten_in stop ≡ 0
+all_written None memory = refl
+all_written (Some (Spent spent)) memory = refl
+all_written (Some (Tampered place)) memory = refl
+all_written (Some NoMemory) memory = absurd (memory refl)
+
+pub came_unless_held : (quiet : Type 0) (tree tree' : TreeView) (old new : BusHistory) (made made' : List Message) (stop : Option MemStop) →
+    WritesBack quiet 1 tree old made tree' new made' stop → quiet → stop ≢ Some NoMemory → CameUnlessHeld tree old made tree' new made'
+came_unless_held quiet tree tree' old new made made' stop back calm memory zero index held = absurd (held refl)
+came_unless_held quiet tree tree' old new made made' stop back calm memory (suc level) index held =
+    held_or_came (cached_node tree (suc level) index) (cached_node tree' (suc level) index) (last_node (suc level) index made) (last_node (suc level) index made')
+    (times_made (suc level) index back.more) (unwritten_in stop) (old.reads (node_place (suc level) index)) (new.reads (node_place (suc level) index)) held
+    (all_written stop memory) (unmade_last (suc level) index made made' back.more back.made_more) (back.once_a_copy calm (suc level) index (omega arith))

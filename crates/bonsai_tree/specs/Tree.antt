@@ -95,7 +95,7 @@ pub record SlotsAreTags (tag_of : Message → List ℕ) (geometry : GeometryView
       made ≡ before ++ Node (level + 1) index block ∷ after → at < arity geometry →
       tag_in_slot geometry at block ≡ tag_of_last tag_of level (child geometry index at) (last_node level (child geometry index at) before)
 
--- a node's place was read, or the node was never made before the call
+-- a node's place was read, or none of these messages is of the node
 abbrev pub NodeCame : List Message → ℕ → ℕ → BusHistory → BusHistory → Type 0
 NodeCame made level index old new =
     (last_node level index made ≡ None) ⊎ Rose (old.reads (node_place level index)) (new.reads (node_place level index))
@@ -126,6 +126,12 @@ pub record WasReadUp (tree : TreeView) (made : List Message) (level index : ℕ)
   pub rose : (more : ℕ) → level + more ≤ tree.geometry.levels →
       ((lower : ℕ) → lower ≤ more → cached_node tree (level + lower) (above tree.geometry index lower) ≡ None) →
       NodeCame made (level + more) (above tree.geometry index more) old new
+
+-- Each node that has a copy had one before and has the same last block, or was never made, or was read: so was one that went out
+-- with another block, and came again.
+abbrev pub CameUnlessHeld : TreeView → BusHistory → List Message → TreeView → BusHistory → List Message → Type 0
+CameUnlessHeld tree old made tree' new made' = (level index : ℕ) → cached_node tree' level index ≢ None →
+    ((cached_node tree level index ≢ None) × (last_node level index made' ≡ last_node level index made)) ⊎ NodeCame made' level index old new
 
 -- a place is that of a node of this level or of one above it
 pub record IsNodeFrom (geometry : GeometryView) (from : ℕ) (place : Place) : Type 0 where

@@ -26,7 +26,7 @@ ghost use Rattle.bonsai_tree.specs.KeptRead.{IsKeptNode, ReadsKept};
 ghost use Rattle.bonsai_tree.specs.Climb.{Climbs, IsBlockOf, IsVictim, MakesRoom, NoNode, WritesUp};
 ghost use Rattle.bonsai_tree.specs.Node.{CachedNode, block_or_zeros, level_blocks, no_tag, page_block, with_tag};
 ghost use Rattle.bonsai_tree.specs.NodeCache.{AreNodeCaches, IsLatestNode, OtherLevels, OtherNodes, level_cache, most_copies, node_way};
-ghost use Rattle.bonsai_tree.specs.Tree.{EndsQuietly, GoesOutFor, HoldsTree, IsFetchPlace, IsKept, IsMarked, IsReadByTag, IsNodeFrom, NodeCame, NodesAreMade, NodesHoldLast, PathWasRead, SamePages, SlotsAreTags, UnmadeAreUnread, WasReadUp, WritesBack, cached_node, cached_nodes, current_block, kept_tag, path_accesses, present_accesses, want_of};
+ghost use Rattle.bonsai_tree.specs.Tree.{CameUnlessHeld, EndsQuietly, GoesOutFor, HoldsTree, IsFetchPlace, IsKept, IsMarked, IsReadByTag, IsNodeFrom, NodeCame, NodesAreMade, NodesHoldLast, PathWasRead, SamePages, SlotsAreTags, UnmadeAreUnread, WasReadUp, WritesBack, cached_node, cached_nodes, current_block, kept_tag, path_accesses, present_accesses, want_of};
 
 use crate::node_cache::NodeCache;
 use crate::slots::{put_tag, slot_tag};
@@ -41,8 +41,9 @@ use tag_engine::TagEngine;
 // The tag that is kept of a node that was never made.
 const NO_TAG: [u8; TAG_LEN] = [0; TAG_LEN];
 
-/// The tree over the counter blocks of all pages. The chip keeps the tag of its top node, and copies of nodes. A node that
-/// was never made (no message of it was tagged) is zeros, and so is the tag that is kept of it.
+/// The tree over the counter blocks of all pages. The chip keeps copies of nodes, and in the root register the tag that is
+/// kept of the top node. A node that was never made (no message of it was tagged) is zeros, and so is the tag that is kept of
+/// it. The top node is one of these: its copy never goes out.
 #[derive(Drop)]
 pub struct Tree {
     root: [u8; TAG_LEN],
@@ -170,11 +171,15 @@ impl Tree {
             (λ used. HoldsTree (tags_of T.data_tag_of T.node_tag_of) self.old (B.history bus.old) tags.old)
             (B.history bus.old) tags.old (B.history bus.new) tags.new accesses (result_err result) }
 
-        // What has a copy on the chip was read, with the nodes above it, unless it had one or was never made.
+        // What has a copy on the chip was read, with the nodes above it, unless it had one or was never made before. Unless the call
+        // ran out of memory, it was also read where it went out with another block, and came again.
         ensures few_copies { (level : ℕ) → length (cached_nodes self.new level) ≤ most_copies }
         ensures new_copies { HoldsTree (tags_of T.data_tag_of T.node_tag_of) self.old (B.history bus.old) tags.old →
             tags.new.evidence ≡ None → (level index : ℕ) → cached_node self.new level index ≢ None →
             WasReadUp self.old tags.old.made level index (B.history bus.old) (B.history bus.new) }
+        ensures came { HoldsTree (tags_of T.data_tag_of T.node_tag_of) self.old (B.history bus.old) tags.old →
+            tags.new.evidence ≡ None → result ≢ Err no_memory →
+            CameUnlessHeld self.old (B.history bus.old) tags.old.made self.new (B.history bus.new) tags.new.made }
 
         // Each time a node above level 0 was made, each of its slots had the tag of that child's last message, or zeros where the
         // child was never made.
@@ -281,11 +286,15 @@ impl Tree {
             (λ used. HoldsTree (tags_of T.data_tag_of T.node_tag_of) self.old (B.history bus.old) tags.old)
             (B.history bus.old) tags.old (B.history bus.new) tags.new accesses (result_err result) }
 
-        // What has a copy on the chip was read, with the nodes above it, unless it had one or was never made.
+        // What has a copy on the chip was read, with the nodes above it, unless it had one or was never made before. Unless the call
+        // ran out of memory, it was also read where it went out with another block, and came again.
         ensures few_copies { (level : ℕ) → length (cached_nodes self.new level) ≤ most_copies }
         ensures new_copies { HoldsTree (tags_of T.data_tag_of T.node_tag_of) self.old (B.history bus.old) tags.old →
             tags.new.evidence ≡ None → (level index : ℕ) → cached_node self.new level index ≢ None →
             WasReadUp self.old tags.old.made level index (B.history bus.old) (B.history bus.new) }
+        ensures came { HoldsTree (tags_of T.data_tag_of T.node_tag_of) self.old (B.history bus.old) tags.old →
+            tags.new.evidence ≡ None → result ≢ Err no_memory →
+            CameUnlessHeld self.old (B.history bus.old) tags.old.made self.new (B.history bus.new) tags.new.made }
 
         // Each time a node above level 0 was made, each of its slots had the tag of that child's last message, or zeros where the
         // child was never made.

@@ -21,7 +21,7 @@ use Rattle.bonsai_tree.proofs.Copies.{few_copies}
 use Rattle.bonsai_tree.proofs.OutFor.{out_kept, out_on}
 use Rattle.bonsai_tree.proofs.PathCalls.{climb_room, climb_writes, fetched, fetched_accepted, fetched_alone, fetched_block, fetched_by_tag, fetched_checked, fetched_found, fetched_pages, fetched_read, not_from_one, ok_of, page_node, path_more, stop_of_err}
 use Rattle.bonsai_tree.proofs.Views.{latest_cached}
-use Rattle.bonsai_tree.proofs.WrittenBack.{up_climbed, up_same}
+use Rattle.bonsai_tree.proofs.WrittenBack.{came_unless_held, up_climbed, up_same}
 use Rattle.bonsai_tree.proofs.TreeMakes.{makes_climbed, makes_read}
 use Rattle.bonsai_tree.proofs.tree.Tree.fetch.Given.{Over}
 use Rattle.bonsai_tree.proofs.tree.Tree.fetch.Goals as goal
@@ -179,6 +179,18 @@ nodes_back g c =
 
 pub returns-clause-written_back : goal.returns-clause-written_back
 returns-clause-written_back g c = (nodes_back g c).back
+
+-- what has a copy came, unless it was held
+pub returns-in_err-parent_present-clause-came : goal.returns-in_err-parent_present-clause-came
+returns-in_err-parent_present-clause-came g c = λ holds quiet memory.
+    let stop : result_err c.from_residual.result ≡ Some c.in_err-parent_present.field-0.0 = search rules in
+    came_unless_held _ c.args.self.now c.parent_present.new.self (g.B.Bus.history c.args.bus.now) (g.B.Bus.history c.parent_present.new.bus) c.args.tags.now.made c.parent_present.new.tags.made (Some c.in_err-parent_present.field-0.0)
+    c.in_err-parent_present.ensures.back.back (holds, quiet) (λ is. memory (stop_is c.from_residual.result NoMemory (stop ∙ is)))
+
+pub returns-clause-came : goal.returns-clause-came
+returns-clause-came g c = λ holds quiet memory.
+    came_unless_held _ c.args.self.now c.parent_present.new.self (g.B.Bus.history c.args.bus.now) (g.B.Bus.history c.read_kept.new.bus) c.args.tags.now.made c.read_kept.new.tags.made (result_err c.read_kept.result)
+    (nodes_back g c).back (holds, quiet) (λ is. memory (stop_is c.read_kept.result NoMemory is))
 
 pub returns-in_err-parent_present-clause-no_rise : goal.returns-in_err-parent_present-clause-no_rise
 returns-in_err-parent_present-clause-no_rise g c = c.in_err-parent_present.ensures.climbs.no_rise

@@ -23,7 +23,7 @@ use Rattle.bonsai_tree.proofs.LevelBlocks.{blocks_after}
 use Rattle.bonsai_tree.proofs.OutFor.{out_kept, out_on}
 use Rattle.bonsai_tree.proofs.PathCalls.{climb_room, climb_writes, page_node, path_more, stop_of_err, updated_read}
 use Rattle.bonsai_tree.proofs.Views.{latest_cached}
-use Rattle.bonsai_tree.proofs.WrittenBack.{up_climbed}
+use Rattle.bonsai_tree.proofs.WrittenBack.{came_unless_held, up_climbed}
 use Rattle.bonsai_tree.proofs.TreeMakes.{makes_wrote}
 use Rattle.bonsai_tree.proofs.tree.Tree.update.Given.{Over}
 use Rattle.bonsai_tree.proofs.tree.Tree.update.Goals as goal
@@ -349,6 +349,23 @@ returns-clause-written_back g c =
     up_climbed g.T.Tagger.data_tag_of g.T.Tagger.node_tag_of 1 1 (IsBlockOf 0 c.args.page c.args.block.now) c.args.self.now c.parent_present.new.self c.write_below.new.self (g.B.Bus.history c.args.bus.now) (g.B.Bus.history c.parent_present.new.bus) (g.B.Bus.history c.write_below.new.bus) c.args.tags.now c.parent_present.new.tags c.write_below.new.tags None
     c.in_ok-parent_present.ensures.climbs c.in_ok-write_below.ensures.climbs.moves c.in_ok-parent_present.ensures.back c.in_ok-write_below.ensures.back in
     nodes.back
+
+-- what has a copy came, unless it was held
+pub returns-in_err-parent_present-clause-came : goal.returns-in_err-parent_present-clause-came
+returns-in_err-parent_present-clause-came g c =
+    let stop : result_err c.from_residual.result ≡ Some c.in_err-parent_present.field-0.0 = search rules in
+    λ holds quiet memory. came_unless_held _ c.args.self.now c.parent_present.new.self (g.B.Bus.history c.args.bus.now) (g.B.Bus.history c.parent_present.new.bus) c.args.tags.now.made c.parent_present.new.tags.made (Some c.in_err-parent_present.field-0.0)
+    c.in_err-parent_present.ensures.back.back (holds, quiet) (λ is. memory (stop_is c.from_residual.result NoMemory (stop ∙ is)))
+
+pub returns-in_err-write_below-clause-came : goal.returns-in_err-write_below-clause-came
+returns-in_err-write_below-clause-came g c =
+    let stop : result_err c.from_residual-in_err-write_below.result ≡ Some NoMemory = search rules in
+    λ holds quiet memory. absurd (memory (stop_is c.from_residual-in_err-write_below.result NoMemory stop))
+
+pub returns-clause-came : goal.returns-clause-came
+returns-clause-came g c = λ holds quiet memory.
+    came_unless_held _ c.args.self.now c.write_below.new.self (g.B.Bus.history c.args.bus.now) (g.B.Bus.history c.write_below.new.bus) c.args.tags.now.made c.write_below.new.tags.made None
+    (returns-clause-written_back g c) (holds, quiet) (λ (e : None ≡ Some NoMemory). cc)
 
 pub returns-in_err-parent_present-clause-no_rise : goal.returns-in_err-parent_present-clause-no_rise
 returns-in_err-parent_present-clause-no_rise g c = c.in_err-parent_present.ensures.climbs.no_rise
