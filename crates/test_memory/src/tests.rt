@@ -5,6 +5,8 @@ ghost use Rattle.sec_base.specs.Place.{stored_size};
 ghost use Rattle.bus_model.specs.BusHistory.{new_history};
 ghost use Rattle.secure_memory.specs.SecureRam.{lines_of};
 
+mod tampering;
+
 use bus_model::{Bus, FlipBus, HonestBus};
 use fakes::CountingBus;
 use hmac_tag::{HmacTagger, derive};
@@ -169,81 +171,6 @@ fn the_first_stop_is_answered_again(rt: HostRuntime) -> Result<(), Fail> {
         let (account, bus) = worn.memory.finish();
         assert_eq!(rt; account.used.len(), entries, "{stop:?}");
         assert_eq!(rt; bus.lies(), k, "{stop:?}");
-    }
-    Ok(())
-}
-
-// A memory of at least two MiB over a bus that flips a bit.
-#[derive(Drop)]
-struct Flipped {
-    memory: SecureRam<FlipBus, HmacTagger>,
-    ghost large: { 2097152 ≤ 64 * lines_of memory },
-}
-
-impl Flipped {
-    // The lowest bit of a place's first byte is flipped as it is read for the first time.
-    fn new(alloc: Global, layout: Layout, levels: u8, place: Place) -> Result<Flipped, Fail> {
-        let geometry = Geometry::with(layout, levels).ok_or("no geometry")?;
-        let bus = FlipBus::new(alloc, geometry, place, 1, 0, 1)?;
-        let keys = derive(&[0; 32]);
-        let tagger = HmacTagger::new(&keys);
-        let Ok(memory) = SecureRam::boot(alloc, bus, tagger, &keys, geometry, u64::MAX) else {
-            return Err(Fail::from("no memory"));
-        };
-        if memory.size() < 2097152 {
-            return Err(Fail::from("small"));
-        }
-        Ok(Flipped { memory })
-    }
-
-    // Loads from lines of four pages that are so many apart. They share a set with line 1, their counter blocks with that of page
-    // 0, and the nodes above these with (1, 0). So all three go out, one after another.
-    fn send_out(&mut self, rt: &impl Abort, apart: u32) -> Result<(), MemStop> {
-        assert!(rt; apart <= 64);
-        for at in 1..=4u32 {
-            self.memory.load(4096 * apart * at + 64, Width::Four)?;
-        }
-        Ok(())
-    }
-}
-
-// As the line comes in, none of the three was ever written, so none is read. It goes out, and so do its counters and the node above
-// them. The last load reads each of the three for the first time.
-#[test]
-fn a_flipped_bit_is_tampering(rt: HostRuntime) -> Result<(), Fail> {
-    let block = Place::Node { level: 0, index: 0 };
-    let node = Place::Node { level: 1, index: 0 };
-    let rows = [
-        (Layout::One, 5, 32, Place::Line(1)),
-        (Layout::One, 5, 32, block),
-        (Layout::One, 5, 32, node),
-        (Layout::Two, 3, 64, Place::Line(1)),
-        (Layout::Two, 3, 64, block),
-        (Layout::Two, 3, 64, node),
-    ];
-    for (layout, levels, apart, place) in rows {
-        let mut flipped = Flipped::new(rt.alloc(), layout, levels, place)?;
-        assert_eq!(rt; flipped.memory.store(64, Width::Four, 7), Ok(()), "{place}");
-        assert!(rt; flipped.memory.held(1), "{place}");
-        assert_eq!(rt; flipped.memory.held_count(), 1, "{place}");
-        assert_eq!(rt; flipped.memory.load(64, Width::Four), Ok(7), "{place}");
-        assert_eq!(rt; flipped.send_out(&rt, apart), Ok(()), "{place}");
-        assert!(rt; !flipped.memory.held(1), "{place}");
-        assert_eq!(rt; flipped.memory.held_count(), 2, "{place}");
-        let tampered = MemStop::Tampered(place);
-        assert_eq!(rt;
-            flipped.memory.load(64, Width::Four),
-            Err(tampered),
-            "{place}"
-        );
-        assert_eq!(rt;
-            flipped.memory.load(0, Width::Four),
-            Err(tampered),
-            "{place}"
-        );
-        let (account, bus) = flipped.memory.finish();
-        assert_eq!(rt; account.evidence, None, "{place}");
-        assert_eq!(rt; bus.lies(), 1, "{place}");
     }
     Ok(())
 }
