@@ -21,8 +21,8 @@ use Rattle.checked_bus.proofs.Steps.{moves_not, moves_on, same_lines_not, same_l
 use Rattle.checked_bus.proofs.Writes.{writes_on}
 use Rattle.split_counter.specs.CounterBlock.{block_of}
 use Rattle.bonsai_tree.specs.Node.{CachedNode, block_or_zeros, current_of, page_block, path_index}
-use Rattle.bonsai_tree.specs.Tree.{HoldsTree, IsFetchPlace, IsNodeFrom, NodeCame, NodesAreMade, NodesHoldLast, PathWasRead, SlotsAreTags, TreeView, UnmadeAreUnread, WasReadUp, above, cached_node}
-use Rattle.bonsai_tree.proofs.Climbs.{came_after, came_before, read_up_held, read_up_on, unchanged_writes, unmade_before}
+use Rattle.bonsai_tree.specs.Tree.{CameUnlessHeld, HoldsTree, IsFetchPlace, IsNodeFrom, NodeCame, NodesAreMade, NodesHoldLast, PathWasRead, SlotsAreTags, TreeView, UnmadeAreUnread, WasReadUp, above, cached_node}
+use Rattle.bonsai_tree.proofs.Climbs.{came_after, came_before, read_up_held, read_up_on, unchanged_writes, unless_held_on, unmade_before}
 use Rattle.bonsai_tree.proofs.Nodes.{same_tags, some_not_none}
 use Rattle.bonsai_tree.proofs.PathCalls.{not_from_one}
 use Rattle.counter_cache.specs.Counters.{AreBlocks, CameFrom, CountersView, HasFewNodes, HoldsCounters, SameCounters, cached_block, cached_pages, counters_in, current_page}
@@ -54,6 +54,7 @@ pub record TreeCall {T : Type 0} (tags : TagEngineView T → Message → List �
       SlotsAreTags (tags engine) tree.geometry engine'.made
   pub read : HoldsTree tags tree old engine → engine'.evidence ≡ None → (level index : ℕ) → cached_node tree' level index ≢ None →
       WasReadUp tree engine.made level index old new
+  pub came : HoldsTree tags tree old engine → engine'.evidence ≡ None → stop ≢ Some NoMemory → CameUnlessHeld tree old engine.made tree' new engine'.made
   pub unread : HoldsTree tags tree old engine → engine'.evidence ≡ None → UnmadeAreUnread old engine'.made new
 
 -- the page has no copy that was changed
@@ -103,6 +104,7 @@ module _ {T : Type 0} (d n : T → List ℕ → List ℕ) (Where : Place → Typ
     last_blocks = λ remembered was. was;
     slots = λ holds quiet tagged. tagged;
     read = λ holds quiet level index held. read_up_held counters.tree engine.made level index history history held;
+    came = λ holds quiet memory level index held. inl (held, refl);
     unread = λ holds quiet level index none. refl;
     copied = λ holds quiet page held. inl held;
   }
@@ -188,6 +190,10 @@ module _ {T : Type 0} (d n : T → List ℕ → List ℕ) (Where : Place → Typ
             read_up_on counters.tree mid.tree engine.made engine'.made level index first second third has.geometry has.moves.reads more.moves.reads
             (unmade_before engine.made engine'.made has.moves.more has.moves.made) (has.read holds still)
             (more.read (has.holds holds going) quiet level index held);
+        came = λ holds quiet memory.
+            let still : engine'.evidence ≡ None = was_none engine'.evidence engine''.evidence more.moves.evidence quiet in
+            unless_held_on counters.tree mid.tree counters'.tree engine.made engine'.made engine''.made first second third has.moves.reads more.moves.reads
+            (has.came holds still going) (more.came (has.holds holds going) quiet memory);
         unread = λ holds quiet level index none.
             let still : engine'.evidence ≡ None = was_none engine'.evidence engine''.evidence more.moves.evidence quiet in
             more.unread (has.holds holds going) quiet level index none
@@ -241,6 +247,7 @@ module _ {T : Type 0} (d n : T → List ℕ → List ℕ) (Where : Place → Typ
     last_blocks = call.last_blocks;
     slots = λ holds. call.slots holds.tree;
     read = λ holds. call.read holds.tree;
+    came = λ holds. call.came holds.tree;
     unread = λ holds. call.unread holds.tree;
     copied = λ holds quiet page held. inl held;
   }
@@ -276,6 +283,7 @@ module _ {T : Type 0} (d n : T → List ℕ → List ℕ) (Where : Place → Typ
     slots = λ holds quiet tagged. tagged;
     read = λ holds quiet level index held.
         read_up_held counters.tree engine.made level index history history (subst (λ (t : TreeView). cached_node t level index ≢ None) tree held);
+    came = λ holds quiet memory level index held. inl (subst (λ (t : TreeView). cached_node t level index ≢ None) tree held, refl);
     unread = λ holds quiet level index none. refl;
     copied = λ holds quiet page held. inl (held_before (cached_block counters' page) (cached_block counters page) held (fewer page));
   }
@@ -372,6 +380,8 @@ module _ {T : Type 0} (d n : T → List ℕ → List ℕ) (Where : Place → Typ
       slots = before.slots;
       read = λ holds quiet level index held.
           call.read holds.tree quiet level index (subst (λ (t : TreeView). cached_node t level index ≢ None) tree_is held);
+      came = λ holds quiet memory level index held.
+          call.came holds.tree quiet memory level index (subst (λ (t : TreeView). cached_node t level index ≢ None) tree_is held);
       unread = before.unread;
       copied = λ holds quiet other held. elim (cases_eq other page) [
         | inr apart ↦ inl (λ none. held (same other apart ∙ none))
@@ -419,6 +429,7 @@ has_as d n Some_of All_of counters counters' old new engine engine' stop wider h
   last_blocks = has.last_blocks;
   slots = has.slots;
   read = has.read;
+  came = has.came;
   unread = has.unread;
   copied = λ holds quiet page held. elim (has.copied holds quiet page held) [
     | inl before ↦ inl before

@@ -23,7 +23,7 @@ ghost use Rattle.split_counter.specs.declared.bumped.Bumped.TheVariants.{Line, P
 ghost use Rattle.split_counter.specs.CounterBlock.{IsCounterBlock, after_bump, block_of, bumped, counter_number, counter_of, new_block};
 ghost use Rattle.bonsai_tree.specs.Node.{CachedNode, level_blocks, no_tag, page_block};
 ghost use Rattle.bonsai_tree.specs.NodeCache.{most_copies};
-ghost use Rattle.bonsai_tree.specs.Tree.{IsFetchPlace, IsNodeFrom, NodesAreMade, NodesHoldLast, PathWasRead, SlotsAreTags, UnmadeAreUnread, WasReadUp, cached_node, cached_nodes, path_accesses};
+ghost use Rattle.bonsai_tree.specs.Tree.{CameUnlessHeld, IsFetchPlace, IsNodeFrom, NodesAreMade, NodesHoldLast, PathWasRead, SlotsAreTags, UnmadeAreUnread, WasReadUp, cached_node, cached_nodes, path_accesses};
 ghost use Rattle.counter_cache.specs.Counters.{AreCopies, AreHad, CameFrom, HoldsCounters, IsBumped, IsHad, LeavesClean, OnlyLeavingIsMade, SameCounters, cached_block, cached_pages, counter_accesses, counters_in, leaving_page, left_by, most_blocks, set_of, ways_beside};
 ghost use Rattle.counter_cache.specs.Having.{Has};
 
@@ -159,6 +159,9 @@ impl Counters {
         ensures new_nodes { HoldsCounters (tags_of T.data_tag_of T.node_tag_of) self.old (B.history bus.old) tags.old →
             tags.new.evidence ≡ None → (level index : ℕ) → cached_node self.new.tree level index ≢ None →
             WasReadUp self.old.tree tags.old.made level index (B.history bus.old) (B.history bus.new) }
+        ensures nodes_came { HoldsCounters (tags_of T.data_tag_of T.node_tag_of) self.old (B.history bus.old) tags.old →
+            tags.new.evidence ≡ None → result ≢ Err no_memory →
+            CameUnlessHeld self.old.tree (B.history bus.old) tags.old.made self.new.tree (B.history bus.new) tags.new.made }
 
         // The least recently used copy of a full set goes out for a block that comes. Where it was not changed, there are no more
         // accesses than a fetch may make. All others stay as they are, and in their order. A page whose call is refused has no
@@ -283,6 +286,9 @@ impl Counters {
         ensures new_nodes { HoldsCounters (tags_of T.data_tag_of T.node_tag_of) self.old (B.history bus.old) tags.old →
             tags.new.evidence ≡ None → (level index : ℕ) → cached_node self.new.tree level index ≢ None →
             WasReadUp self.old.tree tags.old.made level index (B.history bus.old) (B.history bus.new) }
+        ensures nodes_came { HoldsCounters (tags_of T.data_tag_of T.node_tag_of) self.old (B.history bus.old) tags.old →
+            tags.new.evidence ≡ None → result ≢ Err no_memory →
+            CameUnlessHeld self.old.tree (B.history bus.old) tags.old.made self.new.tree (B.history bus.new) tags.new.made }
 
         // Copies go and stay as in `get`, but the page's own has the new counters and is changed, unless the line is spent.
         ensures goes { (other : ℕ) → leaving_page self.old page ≡ Some other → OnOk result (cached_block self.new other ≡ None) }

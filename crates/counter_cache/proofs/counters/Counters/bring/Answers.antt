@@ -114,6 +114,7 @@ returns-in_err-block-clause-has g c =
       last_blocks = λ remembered was. c.fetch.ensures.last_blocks was (λ is. remembered (ap result_err is));
       slots = c.fetch.ensures.slots;
       read = c.fetch.ensures.new_copies;
+      came = λ holds quiet memory. c.fetch.ensures.came holds quiet (λ is. memory (ap result_err is));
       unread = c.fetch.ensures.unread;
     })
     (λ page unchanged. c.fetch.ensures.pages.last page))))
@@ -198,6 +199,7 @@ returns-clause-has g c =
       last_blocks = λ remembered was. c.fetch.ensures.last_blocks was (λ is. remembered (ap result_err is));
       slots = c.fetch.ensures.slots;
       read = c.fetch.ensures.new_copies;
+      came = λ holds quiet memory. c.fetch.ensures.came holds quiet (λ is. memory (ap result_err is));
       unread = c.fetch.ensures.unread;
     }))
     c.fetch.ensures.pages.last
@@ -272,6 +274,17 @@ returns-clause-stays g c = λ other apart stays.
     ap (option_map copy_of) (c.put.ensures.same other apart) ∙ ap (λ (v : CountersView). cached_block v other) c.self-2.view_is
     ∙ subst (λ (v : CountersView). leaving_page v c.args.page ≢ Some other → cached_block c.make_room.new.self other ≡ cached_block v other) same
     (c.make_room.ensures.stays other) stays
+
+pub returns-in_err-block-clause-stays : goal.returns-in_err-block-clause-stays
+returns-in_err-block-clause-stays g c = λ other apart stays.
+    let same : (record { tree = c.self.inside.tree; blocks = c.touch.new.self }) ≡ c.args.self.now =
+    ap (λ (b : List (List Way)). record { tree = c.self.inside.tree; blocks = b }) (c.if-touch.ensures.unchanged refl) ∙ c.self.view_is in
+    ap (λ (v : CountersView). cached_block v other) c.self-2.view_is
+    ∙ subst (λ (v : CountersView). leaving_page v c.args.page ≢ Some other → cached_block c.make_room.new.self other ≡ cached_block v other) same
+    (c.make_room.ensures.stays other) stays
+
+pub returns-clause-alone : goal.returns-clause-alone
+returns-clause-alone g c = λ other apart. c.fetch.ensures.alone other apart ∙ c.make_room.ensures.no_block_read other
 
 pub returns-clause-once_clean : goal.returns-clause-once_clean
 returns-clause-once_clean g c = λ clean.

@@ -94,6 +94,17 @@ pub returns-clause-new_nodes : goal.returns-clause-new_nodes
 returns-clause-new_nodes g c = λ holds quiet level index held.
     c.get.ensures.new_nodes holds quiet level index (subst (λ (v : CountersView). cached_node v.tree level index ≢ None) c.self.view_is held)
 
+pub returns-in_err-block-clause-nodes_came : goal.returns-in_err-block-clause-nodes_came
+returns-in_err-block-clause-nodes_came g c = λ holds quiet memory.
+    let stop : result_err c.from_residual.result ≡ Some c.in_err-block.field-0.0 = search rules in
+    c.get.ensures.nodes_came holds quiet
+    (λ (is : c.get.result ≡ Err NoMemory). memory (stop_is c.from_residual.result NoMemory (stop ∙ sym (ap result_err c.in_err-block.was) ∙ ap result_err is)))
+
+pub returns-clause-nodes_came : goal.returns-clause-nodes_came
+returns-clause-nodes_came g c = λ holds quiet memory level index held.
+    c.in_ok-block.ensures.nodes_came holds quiet (λ (is : Ok c.in_ok-block.block ≡ Err NoMemory). cc) level index
+    (subst (λ (v : CountersView). cached_node v.tree level index ≢ None) c.self.view_is held)
+
 pub returns-clause-checked : goal.returns-clause-checked
 returns-clause-checked g c =
     let was = c.in_ok-block.ensures.checked in

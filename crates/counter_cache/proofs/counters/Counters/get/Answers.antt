@@ -31,6 +31,14 @@ returns-in_err-bring-clause-last_blocks g c = λ was memory.
     let stop : result_err c.from_residual.result ≡ Some c.in_err-bring.field-0.0 = search rules in
     c.in_err-bring.ensures.has.last_blocks (λ is. memory (stop_is c.from_residual.result NoMemory (stop ∙ is))) was
 
+pub returns-in_err-bring-clause-nodes_came : goal.returns-in_err-bring-clause-nodes_came
+returns-in_err-bring-clause-nodes_came g c = λ holds quiet memory.
+    let stop : result_err c.from_residual.result ≡ Some c.in_err-bring.field-0.0 = search rules in
+    c.in_err-bring.ensures.has.came holds quiet (λ is. memory (stop_is c.from_residual.result NoMemory (stop ∙ is)))
+
+pub returns-clause-nodes_came : goal.returns-clause-nodes_came
+returns-clause-nodes_came g c = λ holds quiet memory. c.in_ok-bring.ensures.has.came holds quiet going
+
 pub returns-in_err-bring-clause-writes : goal.returns-in_err-bring-clause-writes
 returns-in_err-bring-clause-writes g c = λ more is.
     let stop : result_err c.from_residual.result ≡ Some c.in_err-bring.field-0.0 = search rules in

@@ -39,6 +39,7 @@ returns-clause-has g c =
       last_blocks = λ remembered was. c.update.ensures.last_blocks was (λ is. remembered (ap result_err is));
       slots = c.update.ensures.slots;
       read = c.update.ensures.new_copies;
+      came = λ holds quiet memory. c.update.ensures.came holds quiet (λ is. memory (ap result_err is));
       unread = c.update.ensures.unread;
     })
     (λ page unchanged. elim (cases_eq page c.args.victim.now.place) [
