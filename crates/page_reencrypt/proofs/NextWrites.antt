@@ -194,7 +194,7 @@ module _ {B T : Type 0} (history : B → BusHistory) (moved : B → B → Type 0
       (new.engine.evidence ≡ None → counter_in old.pads.used line ≡ last_counter limit →
       SameCounters counters old.engine.made counters' new.engine.made
       × ((history new.bus).accesses ≤ (history old.bus).accesses + counter_accesses old.engine.geometry.levels)) →
-      HasCome terms (page_of line) old counters new counters' → IsWrite terms limit line bytes old counters new counters' (Some why)
+      HasCome terms (page_of line) old counters new counters' (Some why) → IsWrite terms limit line bytes old counters new counters' (Some why)
   stopped_early new counters' why reached limit line bytes rose unspent reserved tampered last come =
       early_write terms old counters new counters' (Some why) reached limit line bytes rose (λ is. cc)
       (λ going. absurd (lasts why unspent going)) reserved
@@ -210,11 +210,12 @@ module _ {B T : Type 0} (history : B → BusHistory) (moved : B → B → Type 0
       (new.engine.evidence ≡ None → counter_in old.pads.used line ≡ last_counter limit →
       SameCounters counters old.engine.made counters' new.engine.made
       × ((history new.bus).accesses ≤ (history old.bus).accesses + counter_accesses old.engine.geometry.levels)) →
-      HasCome terms (page_of line) old counters new counters' → IsWrite terms limit line bytes old counters new counters' (Some (Spent page))
+      HasCome terms (page_of line) old counters new counters' None → IsWrite terms limit line bytes old counters new counters' (Some (Spent page))
   spent_early new counters' page reached limit line bytes rose say reserved page_is last alone come =
       early_write terms old counters new counters' (Some (Spent page)) (reached_spent terms old counters new counters' page reached) limit line bytes rose (λ is. cc)
       (λ going. say) reserved (λ place is. absurd (cc))
-      (λ other is. let same : page ≡ other = cc in (sym same ∙ page_is, last)) alone come
+      (λ other is. let same : page ≡ other = cc in (sym same ∙ page_is, last)) alone
+      (come_idle terms (page_of line) old new new counters counters' (Some (Spent page)) refl refl refl come)
 
   -- Memory was taken, where the counters were had
 
@@ -271,7 +272,7 @@ module _ {B T : Type 0} (history : B → BusHistory) (moved : B → B → Type 0
     pub page_is : page ≡ page_of line
     pub place_is : place ≡ place_of line
     pub same : got.engine.evidence ≡ None → SameCounters counters old.engine.made counters' got.engine.made
-    pub come : HasCome terms page old counters got counters'
+    pub come : HasCome terms page old counters got counters' None
     pub block_is : got.engine.evidence ≡ None → block ≡ counters_in counters old.engine.made page
     pub is_block : IsCounterBlock block
     pub counter_is : counter ≡ counter_of place block
@@ -301,7 +302,7 @@ module _ {B T : Type 0} (history : B → BusHistory) (moved : B → B → Type 0
       pub reached : IsReached (terms_of history moved d n roomy) roomy counters' mid counters'' None
       pub pads : mid.pads ≡ roomy.pads
       pub engine : mid.engine ≡ roomy.engine
-      pub come : HasCome terms page old counters mid counters''
+      pub come : HasCome terms page old counters mid counters'' None
       pub outcome_is : mid.engine.evidence ≡ None → outcome ≡ bumped limit (counter_of place (counters_in counters' roomy.engine.made page))
       pub now : mid.engine.evidence ≡ None → counters_in counters'' mid.engine.made page ≡ (after_bump place limit (counters_in counters' roomy.engine.made page)).1
       pub others : mid.engine.evidence ≡ None → (other : ℕ) → other ≢ page → counters_in counters'' mid.engine.made other ≡ counters_in counters' roomy.engine.made other
@@ -313,7 +314,7 @@ module _ {B T : Type 0} (history : B → BusHistory) (moved : B → B → Type 0
           mid.pads ≡ roomy.pads → counters''.tree.geometry ≡ counters'.tree.geometry →
           KeepsFew counters' counters'' →
           (CountersFit (terms_of history moved d n roomy) roomy counters' → mid.engine.evidence ≡ None →
-          CopiesCame page (history roomy.bus) roomy.engine.made counters' (history mid.bus) counters'') →
+          CopiesCame page (history roomy.bus) roomy.engine.made counters' (history mid.bus) mid.engine.made counters'' None) →
           (CountersFit (terms_of history moved d n roomy) roomy counters' → CountersFit (terms_of history moved d n roomy) mid counters'') →
           (CountersFit (terms_of history moved d n roomy) roomy counters' → roomy.engine.evidence ≡ None →
           outcome ≡ bumped limit (counter_of place (counters_in counters' roomy.engine.made page))) →
@@ -325,8 +326,8 @@ module _ {B T : Type 0} (history : B → BusHistory) (moved : B → B → Type 0
           let fit = roomy_fits got counters' had.reached unmoved moved_on roomy taken in
           let node = (roomy_reached got counters' had.reached unmoved moved_on roomy taken).node in
           let same_terms_now = roomy_terms got counters' had.reached unmoved moved_on roomy taken in
-          let had_come : HasCome terms page old counters roomy counters' =
-          come_idle terms page old got roomy counters counters' (ap (λ (o : OutsideView B T). o.bus) taken) (ap (λ (o : OutsideView B T). o.engine.made) taken)
+          let had_come : HasCome terms page old counters roomy counters' None =
+          come_idle terms page old got roomy counters counters' None (ap (λ (o : OutsideView B T). o.bus) taken) (ap (λ (o : OutsideView B T). o.engine.made) taken)
           (ap (λ (o : OutsideView B T). o.engine.evidence) taken) had.come in
           let up_idle =
           reached_idle (terms_of history moved d n roomy) roomy counters' mid counters'' went
@@ -340,7 +341,7 @@ module _ {B T : Type 0} (history : B → BusHistory) (moved : B → B → Type 0
             reached = up_idle;
             pads = pads;
             engine = idle.1;
-            come = come_on terms page old roomy mid counters counters' counters'' had.reached.geometry node.step up_idle.node.step had_come
+            come = come_on terms page old roomy mid counters counters' counters'' None had.reached.geometry node.step up_idle.node.step had_come
                 (record {
                   few = few;
                   copies = copies fit;
@@ -359,8 +360,8 @@ module _ {B T : Type 0} (history : B → BusHistory) (moved : B → B → Type 0
       up_room : (64 ≤ mid.pads.room) × (64 ≤ mid.engine.room) × (length old.engine.made + 64 ≤ length mid.engine.made + mid.engine.room)
       up_room = mid_room got counters' had.reached unmoved moved_on roomy up.taken mid counters'' up.reached up.pads up.engine
 
-      up_come : HasCome terms (page_of line) old counters mid counters''
-      up_come = subst (λ (p : ℕ). HasCome terms p old counters mid counters'') had.page_is up.come
+      up_come : HasCome terms (page_of line) old counters mid counters'' None
+      up_come = subst (λ (p : ℕ). HasCome terms p old counters mid counters'' None) had.page_is up.come
 
       mid_quiet : mid.engine.evidence ≡ None → got.engine.evidence ≡ None
       mid_quiet quiet =

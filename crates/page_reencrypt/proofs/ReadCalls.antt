@@ -54,7 +54,7 @@ lasting_read history bus_moved tags bus_unmoved lines line stop lasting = record
   read = record { path = λ going quiet uncached. absurd (cc); read = λ going quiet. absurd (cc) };
   stopped = lasts_itself lines.stopped stop lasting;
   few_copies = few_not lines.counters;
-  copies = λ quiet. came_not (page_of line) (history lines.bus) lines.engine.made lines.counters;
+  copies = λ quiet. came_not (page_of line) (history lines.bus) lines.engine.made lines.counters (Some stop);
   unread = λ quiet level index none. refl;
   cached = tt;
   fits = λ going quiet. absurd (cc);

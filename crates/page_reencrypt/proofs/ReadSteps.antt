@@ -90,7 +90,7 @@ module _ {B T : Type 0} (history : B → BusHistory) (moved : B → B → Type 0
       ((evidence : Evidence) → old.engine.evidence ≡ None → new.engine.evidence ≡ Some evidence → IsFetchPlace old.engine.geometry page (evidence_place evidence)) →
       ((place : Place) → why ≡ Tampered place → IsFetchPlace old.engine.geometry page place
       × (old.engine.evidence ≡ None → Rose (history old.bus).lies (history new.bus).lies)) →
-      ((spent : ℕ) → why ≢ Spent spent) → HasCome terms page old counters new counters' → IsLineRead terms line old counters new counters' (Err why)
+      ((spent : ℕ) → why ≢ Spent spent) → HasCome terms page old counters new counters' (Some why) → IsLineRead terms line old counters new counters' (Err why)
   unread new counters' why reached pads once still same found tampered unspent come = record {
     bus = reached.node.bus;
     step = reached.node.step;
@@ -108,7 +108,8 @@ module _ {B T : Type 0} (history : B → BusHistory) (moved : B → B → Type 0
     fits = λ none. absurd (cc);
     same = same;
     few = come.few;
-    copies = λ quiet. subst (λ (p : ℕ). CopiesCame p (history old.bus) old.engine.made counters (history new.bus) counters') page_is (come.copies quiet);
+    copies = λ quiet.
+        subst (λ (p : ℕ). CopiesCame p (history old.bus) old.engine.made counters (history new.bus) new.engine.made counters' (Some why)) page_is (come.copies quiet);
     nodes = reached.nodes;
     value = λ quiet. tt;
     unread = come.unread;
@@ -177,15 +178,15 @@ module _ {B T : Type 0} (history : B → BusHistory) (moved : B → B → Type 0
         ap (λ (p : PadEngineView). line_bytes p.key got.engine.made line) got_pads
         ∙ ap (bytes_of old.pads.key line) (reached_data terms old counters got counters' None a line)
 
-    read_come : HasCome terms page old counters got counters' → HasCome terms (page_of line) old counters new counters'
+    read_come : HasCome terms page old counters got counters' None → HasCome terms (page_of line) old counters new counters' (result_err result)
     read_come come =
-        come_more terms (page_of line) old got new counters counters' r.reads got_quiet nodes (λ level index. ap (last_node level index) unmade)
-        (subst (λ (p : ℕ). HasCome terms p old counters got counters') page_is come)
+        come_more terms (page_of line) old got new counters counters' (result_err result) r.reads got_quiet nodes (λ level index. ap (last_node level index) unmade)
+        (subst (λ (p : ℕ). HasCome terms p old counters got counters' None) page_is come)
 
     pub line_read : (history got.bus).accesses ≤ (history old.bus).accesses + counter_accesses old.engine.geometry.levels →
         (Contains (cached_pages counters) (page_of line) → (history got.bus).accesses ≡ (history old.bus).accesses) →
         (got.engine.evidence ≡ None → SameCounters counters old.engine.made counters' got.engine.made) →
-        HasCome terms page old counters got counters' →
+        HasCome terms page old counters got counters' None →
         (got.engine.evidence ≡ None → ¬ Contains (cached_pages counters) page → PathWasRead counters.tree old.engine.made 0 page (history old.bus) (history got.bus)) →
         ((evidence : Evidence) → old.engine.evidence ≡ None → got.engine.evidence ≡ Some evidence → IsFetchPlace old.engine.geometry page (evidence_place evidence)) →
         ((made_at : ℕ) (bytes tag : List ℕ) → old.engine.evidence ≡ None →

@@ -48,7 +48,7 @@ module _ {B T : Type 0} (history : B → BusHistory) (bus_moved : B → B → Ty
     pub read : WasRead history old line new
     pub stopped : new.stopped ≡ option_or (result_err answer) old.stopped
     pub few_copies : KeepsFew old.counters new.counters
-    pub copies : IsQuiet new → CopiesCame (page_of line) (history old.bus) (made old) old.counters (history new.bus) new.counters
+    pub copies : IsQuiet new → CopiesCame (page_of line) (history old.bus) (made old) old.counters (history new.bus) (made new) new.counters (result_err answer)
     -- no node was read that was never made
     pub unread : IsQuiet new → UnmadeAreUnread (history old.bus) (made new) (history new.bus)
     -- where it was read, its page's counter block has a copy then
@@ -62,7 +62,7 @@ module _ {B T : Type 0} (history : B → BusHistory) (bus_moved : B → B → Ty
     pub moves : Moves history bus_moved tags (IsLineOf old) old new
     pub stopped : new.stopped ≡ option_or (result_err answer) old.stopped
     pub few_copies : KeepsFew old.counters new.counters
-    pub copies : IsQuiet new → CopiesCame (page_of line) (history old.bus) (made old) old.counters (history new.bus) new.counters
+    pub copies : IsQuiet new → CopiesCame (page_of line) (history old.bus) (made old) old.counters (history new.bus) (made new) new.counters (result_err answer)
     -- no node was read that was never made
     pub unread : IsQuiet new → UnmadeAreUnread (history old.bus) (made new) (history new.bus)
     -- where it was written or is spent, its page's counter block has a copy then

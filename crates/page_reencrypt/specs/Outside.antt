@@ -160,7 +160,7 @@ module _ {B T : Type 0} (terms : MemoryTerms B) where
     pub same : new.engine.evidence ≡ None → SameCounters counters old.engine.made counters' new.engine.made
     pub few : KeepsFew counters counters'
     pub copies : new.engine.evidence ≡ None →
-        CopiesCame (page_of line) (terms.history old.bus) old.engine.made counters (terms.history new.bus) counters'
+        CopiesCame (page_of line) (terms.history old.bus) old.engine.made counters (terms.history new.bus) new.engine.made counters' (result_err result)
     pub nodes : NodesSayStill old new
     pub value : new.engine.evidence ≡ None → IfOk result (λ bytes. bytes ≡ line_bytes old.pads.key old.engine.made line)
     -- what was read of the bus
@@ -281,7 +281,7 @@ module _ {B T : Type 0} (terms : MemoryTerms B) where
         PathWasRead counters.tree old.engine.made 0 (page_of line) (terms.history old.bus) (terms.history new.bus)
     pub few : KeepsFew counters counters'
     pub copies : new.engine.evidence ≡ None →
-        CopiesCame (page_of line) (terms.history old.bus) old.engine.made counters (terms.history new.bus) counters'
+        CopiesCame (page_of line) (terms.history old.bus) old.engine.made counters (terms.history new.bus) new.engine.made counters' stop
     -- false answers are accounted for, and tampering is of a node that was read to have the counters or, with an overflow, of
     -- another line of the page
     pub accounted : AreAccounted old None → AreAccounted new stop

@@ -113,7 +113,8 @@ impl<B: Bus, T: Tagger> Outside<B, T> {
         ensures few_copies { KeepsFew counters.old counters.new }
         ensures copies { CountersFit (terms_of B.history (Reaches B.moved) T.data_tag_of T.node_tag_of self.old) self.old counters.old →
             self.new.engine.evidence ≡ None →
-            CopiesCame page (B.history self.old.bus) self.old.engine.made counters.old (B.history self.new.bus) counters.new }
+            CopiesCame page (B.history self.old.bus) self.old.engine.made counters.old
+            (B.history self.new.bus) self.new.engine.made counters.new (result_err result) }
         ensures unread { CountersFit (terms_of B.history (Reaches B.moved) T.data_tag_of T.node_tag_of self.old) self.old counters.old →
             self.new.engine.evidence ≡ None → UnmadeAreUnread (B.history self.old.bus) self.new.engine.made (B.history self.new.bus) }
         ensures pages { AreOfPages self.old.engine.geometry counters.new }
@@ -162,7 +163,8 @@ impl<B: Bus, T: Tagger> Outside<B, T> {
         ensures few_copies { KeepsFew counters.old counters.new }
         ensures copies { CountersFit (terms_of B.history (Reaches B.moved) T.data_tag_of T.node_tag_of self.old) self.old counters.old →
             self.new.engine.evidence ≡ None →
-            CopiesCame page (B.history self.old.bus) self.old.engine.made counters.old (B.history self.new.bus) counters.new }
+            CopiesCame page (B.history self.old.bus) self.old.engine.made counters.old
+            (B.history self.new.bus) self.new.engine.made counters.new None }
         ensures pages { AreOfPages self.old.engine.geometry counters.new }
 
         // Where the counters fit or there is evidence, they still do, and the line's counter is the next one.

@@ -208,7 +208,8 @@ impl<B: Bus, T: Tagger> LineStore for SealedLines<B, T> {
             IfOk result (IsReadUnder (tag_in T.data_tag_of T.node_tag_of self.old) (enc_key self.old) line
             (counter_of (place_of line) (block_of block)) (B.history self.new.bus)) }
 
-        // Whatever was answered, the counters were those of the page's copy, or of a block with the tag that the tree keeps.
+        // Whatever was answered, the counters were those of the page's copy, or of a block with the tag that the tree keeps, or of
+        // zeros where it keeps none.
         ensures checked { lasting_stop self.old.stopped ≡ None → IfOk result (IsReadByCounters (tag_in T.data_tag_of T.node_tag_of self.old)
             (enc_key self.old) self.old.counters self.new.counters (made self.new) line (evidence self.old) (evidence self.new)
             (B.history self.new.bus)) }
@@ -217,7 +218,8 @@ impl<B: Bus, T: Tagger> LineStore for SealedLines<B, T> {
         // the line was read, the counter block of its page has a copy.
         ensures few_copies { KeepsFew self.old.counters self.new.counters }
         ensures copies { IsQuiet self.new →
-            CopiesCame (page_of line) (B.history self.old.bus) (made self.old) self.old.counters (B.history self.new.bus) self.new.counters }
+            CopiesCame (page_of line) (B.history self.old.bus) (made self.old) self.old.counters
+            (B.history self.new.bus) (made self.new) self.new.counters (result_err result) }
         ensures unread { IsQuiet self.new → UnmadeAreUnread (B.history self.old.bus) (made self.new) (B.history self.new.bus) }
         ensures cached { OnOk result (Contains (cached_pages self.new.counters) (page_of line)) }
 
@@ -282,7 +284,8 @@ impl<B: Bus, T: Tagger> LineStore for SealedLines<B, T> {
             (B.history self.old.bus) (B.history self.new.bus)) }
         ensures few_copies { KeepsFew self.old.counters self.new.counters }
         ensures copies { IsQuiet self.new →
-            CopiesCame (page_of line) (B.history self.old.bus) (made self.old) self.old.counters (B.history self.new.bus) self.new.counters }
+            CopiesCame (page_of line) (B.history self.old.bus) (made self.old) self.old.counters
+            (B.history self.new.bus) (made self.new) self.new.counters (result_err result) }
         ensures unread { IsQuiet self.new → UnmadeAreUnread (B.history self.old.bus) (made self.new) (B.history self.new.bus) }
 
         // Where the line was written, with an overflow too, or is spent, the counter block of its page has a copy on the chip.

@@ -18,7 +18,7 @@ use Rattle.sec_base.specs.declared.place.Place.{Place}
 use Rattle.sec_base.specs.declared.place.Place.TheVariants.{Line as line_place, Node as node_place}
 use Rattle.sec_base.specs.declared.sealed.Sealed.{Sealed}
 use Rattle.sec_base.specs.declared.stop.MemStop.{MemStop}
-use Rattle.sec_base.specs.declared.stop.MemStop.TheVariants.{Tampered, Spent}
+use Rattle.sec_base.specs.declared.stop.MemStop.TheVariants.{Tampered, Spent, NoMemory}
 use Rattle.sec_base.specs.declared.width.Width.{Width}
 use Rattle.sec_base.proofs.LastMessages.{none_front}
 use Rattle.sec_base.specs.LastMessage.{data_part}
@@ -351,10 +351,11 @@ module _ {B T : Type 0} (history : B → BusHistory) (bus_moved : B → B → Ty
     -- The blocks and nodes that have copies
 
     came_so : (first second : SecureRamView B T) (page : ℕ) → second.lines.counters.tree.geometry ≡ first.lines.counters.tree.geometry →
-        KeepsFew first.lines.counters second.lines.counters →
-        (IsQuiet second → CopiesCame page (history first.lines.bus) (made first.lines) first.lines.counters (history second.lines.bus) second.lines.counters) →
+        KeepsFew first.lines.counters second.lines.counters → (stop : Option MemStop) → second.lines.stopped ≡ option_or stop first.lines.stopped →
+        (IsQuiet second →
+        CopiesCame page (history first.lines.bus) (made first.lines) first.lines.counters (history second.lines.bus) (made second.lines) second.lines.counters stop) →
         CopiesHad history first second
-    came_so first second page same few came = record {
+    came_so first second page same few stop stops came = record {
       tree_geometry = same;
       few_blocks = few.blocks;
       few_nodes = few.nodes;
@@ -363,15 +364,17 @@ module _ {B T : Type 0} (history : B → BusHistory) (bus_moved : B → B → Ty
         | inr own ↦ inr (subst (PageRead history first second) (sym own.0) own.1)
       ];
       nodes = λ quiet. (came quiet).nodes;
+      nodes_came = λ quiet memory.
+          (came quiet).nodes_came (λ want. memory (stops ∙ ap (λ (s : Option MemStop). option_or s first.lines.stopped) want));
     }
 
     read_copies : (first : SecureRamView B T) (answer : Result (List ℕ) MemStop) → first.lines.stopped ≡ None →
         ReadMoved history bus_moved tags first.lines line answer new.lines → CopiesHad history first new
-    read_copies first answer goes r = came_so first new (page_of line) (r.outside (ap lasting_stop goes)).geometry r.few_copies r.copies
+    read_copies first answer goes r = came_so first new (page_of line) (r.outside (ap lasting_stop goes)).geometry r.few_copies (result_err answer) r.stopped r.copies
 
     written_copies : (second : SecureRamView B T) (way : Way) (answer : Result (Unit {0}) MemStop) →
         WriteMoved history bus_moved tags old.lines way.place way.copy answer second.lines → CopiesHad history old second
-    written_copies second way answer w = came_so old second (page_of way.place) (w.outside (ap lasting_stop going)).geometry w.few_copies w.copies
+    written_copies second way answer w = came_so old second (page_of way.place) (w.outside (ap lasting_stop going)).geometry w.few_copies (result_err answer) w.stopped w.copies
 
     pub missed_copies : (out : Option Way) (answer : Result (List ℕ) MemStop) →
         IsMiss (ReadMoved history bus_moved tags) (WriteMoved history bus_moved tags) out old.lines line answer new.lines → CopiesHad history old new
@@ -381,6 +384,7 @@ module _ {B T : Type 0} (history : B → BusHistory) (bus_moved : B → B → Ty
         let between : SecureRamView B T = record { lines = mid; ways = old.ways } in
         copies_on history bus_moved tags (IsLineOf old.lines) old between new w.moves
         (own_moves_after history bus_moved tags old.lines mid new.lines w.moves r.moves)
+        (λ (want : mid.stopped ≡ Some NoMemory). let none : mid.stopped ≡ None = w.stopped ∙ going in absurd (cc))
         (written_copies between way (Ok tt) w) (read_copies between answer (w.stopped ∙ going) r)
 
     -- no node was read that was never made

@@ -1,11 +1,12 @@
 -- What calls make of a memory, one after another.
-use Rattle.std.proofs.Common.{◌≡◌, ◌⊎◌, inl, inr, ℕ, ◌<◌, List, [], ◌++◌, map, get_or, None, Contains, length, refl, ap, sym, ◌∙◌, subst, arith}
+use Rattle.std.proofs.Common.{◌≡◌, ◌⊎◌, inl, inr, ℕ, ◌<◌, List, [], ◌++◌, map, get_or, Some, None, Contains, length, refl, ap, sym, ◌∙◌, subst, arith}
 use Rattle.std.proofs.lemmas.List.{get_or-map, length-map}
 use Rattle.std.proofs.lemmas.List.Elements.{Contains-append_cases, Contains-append_left, Contains-append_right, Contains-get_or}
 use Rattle.sec_base.specs.Geometry.{page_of}
 use Rattle.sec_base.specs.LastMessage.{data_part, last_data, last_node, node_part}
 use Rattle.sec_base.specs.declared.message.Message.{Message}
 use Rattle.sec_base.specs.declared.place.Place.TheVariants.{Line as line_place, Node}
+use Rattle.sec_base.specs.declared.stop.MemStop.TheVariants.{NoMemory}
 use Rattle.sec_base.proofs.LastMessages.{none_front}
 use Rattle.sec_base.proofs.Results.{was_none}
 use Rattle.sec_base.proofs.Lists.{none_contained}
@@ -14,7 +15,7 @@ use Rattle.tag_engine.specs.TagEngine.{TagEngineView}
 use Rattle.cache_set.specs.declared.way.Way.{Way}
 use Rattle.page_reencrypt.specs.SealedLines.{IsLineOf, Moves}
 use Rattle.page_reencrypt.proofs.Moves.{moves_not, own_moves_after, own_moves_on}
-use Rattle.bonsai_tree.proofs.Climbs.{read_up_held, read_up_on, unmade_before}
+use Rattle.bonsai_tree.proofs.Climbs.{read_up_held, read_up_on, unless_held_on, unmade_before}
 use Rattle.secure_memory.specs.SecureRam.{SecureRamView, CopiesHad, IsMoved, IsQuiet, LineHad, PageHad, PageRead, WereHad, cached_pages, evidence, held_lines, made, pages_on_chip, stopped}
 
 -- what stands in a list that was mapped came from something
@@ -45,6 +46,7 @@ copies_not history memory ways = record {
   few_nodes = λ level few. few;
   blocks = λ quiet page cached. inl cached;
   nodes = λ quiet level index cached. read_up_held memory.lines.counters.tree (made memory) level index (history memory.lines.bus) (history memory.lines.bus) cached;
+  nodes_came = λ quiet memory level index cached. inl (cached, refl);
 }
 
 module _ {B T : Type 0} (history : B → BusHistory) (bus_moved : B → B → Type 0) (tags : TagEngineView T → Message → List ℕ) where
@@ -110,8 +112,9 @@ module _ {B T : Type 0} (history : B → BusHistory) (bus_moved : B → B → Ty
 
     -- What holds of the copies over two runs of calls holds over both, one after the other.
     pub copies_on : Moves history bus_moved tags allowed first.lines second.lines → Moves history bus_moved tags allowed second.lines third.lines →
-        CopiesHad history first second → CopiesHad history second third → CopiesHad history first third
-    copies_on moves more came later =
+        (stopped second ≡ Some NoMemory → stopped third ≡ Some NoMemory) → CopiesHad history first second → CopiesHad history second third →
+        CopiesHad history first third
+    copies_on moves more stays came later =
         let before : IsQuiet third → IsQuiet second = was_none (evidence second) (evidence third) more.step.evidence in
         record {
           tree_geometry = later.tree_geometry ∙ came.tree_geometry;
@@ -122,6 +125,10 @@ module _ {B T : Type 0} (history : B → BusHistory) (bus_moved : B → B → Ty
               read_up_on first.lines.counters.tree second.lines.counters.tree (made first) (made second) level index (history first.lines.bus) (history second.lines.bus) (history third.lines.bus)
               came.tree_geometry moves.step.reads more.step.reads (unmade_before (made first) (made second) moves.step.more moves.step.made)
               (came.nodes (before quiet)) (later.nodes quiet level index cached);
+          nodes_came = λ quiet memory.
+              unless_held_on first.lines.counters.tree second.lines.counters.tree third.lines.counters.tree (made first) (made second) (made third)
+              (history first.lines.bus) (history second.lines.bus) (history third.lines.bus) moves.step.reads more.step.reads
+              (came.nodes_came (before quiet) (λ was. memory (stays was))) (later.nodes_came quiet memory);
         }
 
     -- The lines of all calls were had
@@ -147,7 +154,7 @@ module _ {B T : Type 0} (history : B → BusHistory) (bus_moved : B → B → Ty
         moves = own_moves_on history bus_moved tags bus_moved_on first.lines second.lines third.lines a.moves b.moves;
         stays = λ stop is. b.stays stop (a.stays stop is);
         few = λ few. b.few (a.few few);
-        copies = copies_on (IsLineOf first.lines) first second third a.moves more a.copies b.copies;
+        copies = copies_on (IsLineOf first.lines) first second third a.moves more (b.stays NoMemory) a.copies b.copies;
         unread = λ quiet level index none.
             let was_quiet = was_none (evidence second) (evidence third) b.moves.step.evidence quiet in
             b.unread quiet level index none

@@ -47,8 +47,8 @@ returns-in_err-block-clause-written g c =
       shows = e.shows c.requires.fits;
       nodes = e.nodes c.requires.pages c.requires.fits c.requires.current;
     } in
-    let come : HasCome (terms_of h m d n old) (page_of c.args.line) old counters c.get.new.self c.get.new.counters =
-    subst (λ (p : ℕ). HasCome (terms_of h m d n old) p old counters c.get.new.self c.get.new.counters) c.page_of-page.ensures.page
+    let come : HasCome (terms_of h m d n old) (page_of c.args.line) old counters c.get.new.self c.get.new.counters (Some why) =
+    subst (λ (p : ℕ). HasCome (terms_of h m d n old) p old counters c.get.new.self c.get.new.counters (Some why)) c.page_of-page.ensures.page
     (record { few = e.few_copies; copies = e.copies c.requires.fits; unread = e.unread c.requires.fits }) in
     subst (λ (s : Option MemStop). IsWrite (terms_of h m d n old) c.args.limit c.args.line c.args.bytes.now old counters c.get.new.self c.get.new.counters s) (sym stop)
     (stopped_early h m d n old counters c.get.new.self c.get.new.counters why reached c.args.limit c.args.line c.args.bytes.now c.requires.risen
@@ -88,8 +88,8 @@ returns-in-Spent-clause-written g c =
       counter_is = c.get-2.ensures.counter;
       foreseen_is = c.of.ensures.outcome;
     } in
-    let come : HasCome (terms_of h m d n old) (page_of c.args.line) old counters c.get.new.self c.get.new.counters =
-    subst (λ (p : ℕ). HasCome (terms_of h m d n old) p old counters c.get.new.self c.get.new.counters) c.page_of-page.ensures.page
+    let come : HasCome (terms_of h m d n old) (page_of c.args.line) old counters c.get.new.self c.get.new.counters None =
+    subst (λ (p : ℕ). HasCome (terms_of h m d n old) p old counters c.get.new.self c.get.new.counters None) c.page_of-page.ensures.page
     (record { few = e.few_copies; copies = e.copies c.requires.fits; unread = e.unread c.requires.fits }) in
     spent_early h m d n old counters c.get.new.self c.get.new.counters c.page_of-page.result got c.args.limit c.args.line c.args.bytes.now c.requires.risen
     (say_same h m d n old counters c.requires.current c.get.new.self c.get.new.counters None got (e.same c.requires.fits)) (inl (e.same c.requires.fits)) c.page_of-page.ensures.page
@@ -206,8 +206,8 @@ returns-in_err-reserve g c =
     let differs = c.in_err-reserve.ensures.refused in
     let same_bus : h c.reserve.new.self.bus ≡ h c.get.new.self.bus = ap h differs.bus in
     let same_accesses = ap (λ (t : BusHistory). t.accesses) same_bus in
-    let come : HasCome (terms_of h m d n old) (page_of c.args.line) old counters c.get.new.self c.get.new.counters =
-    subst (λ (p : ℕ). HasCome (terms_of h m d n old) p old counters c.get.new.self c.get.new.counters) c.page_of-page.ensures.page
+    let come : HasCome (terms_of h m d n old) (page_of c.args.line) old counters c.get.new.self c.get.new.counters None =
+    subst (λ (p : ℕ). HasCome (terms_of h m d n old) p old counters c.get.new.self c.get.new.counters None) c.page_of-page.ensures.page
     (record { few = e.few_copies; copies = e.copies c.requires.fits; unread = e.unread c.requires.fits }) in
     let stop : result_err c.from_residual-in_err-reserve.result ≡ Some NoMemory = search rules in
     record {
@@ -222,7 +222,7 @@ returns-in_err-reserve g c =
                 ∙ e.same c.requires.fits (sym (ap (λ e. e.evidence) differs.engine) ∙ quiet) page,
             omega (arith, e.once, same_accesses),
           ))
-          (come_idle (terms_of h m d n old) (page_of c.args.line) old c.get.new.self c.reserve.new.self counters c.get.new.counters differs.bus
+          (come_idle (terms_of h m d n old) (page_of c.args.line) old c.get.new.self c.reserve.new.self counters c.get.new.counters (Some NoMemory) differs.bus
           (ap (λ e. e.made) differs.engine) (ap (λ e. e.evidence) differs.engine) come));
       cached = λ going. subst (λ (p : ℕ). Contains (cached_pages c.get.new.counters) p) c.page_of-page.ensures.page e.cached;
       pages = e.pages;

@@ -20,7 +20,12 @@ returns-clause-copies g c = λ fits quiet.
     let old : OutsideView g.row.B.Denot g.row.T.Denot = record { bus = c.self.inside.bus; engine = c.self.inside.tags; pads = c.self.inside.pads } in
     let was = fits_before g.B.Bus.history (Reaches g.B.Bus.moved) g.T.Tagger.data_tag_of g.T.Tagger.node_tag_of old c.bump.new.bus c.bump.new.tags c.args.counters.now
     (rw (← c.self.view_is) at fits) in
-    rw (← c.self.view_is) (record { blocks = c.bump.ensures.new_copies was quiet; nodes = c.bump.ensures.new_nodes was quiet })
+    rw (← c.self.view_is)
+    (record {
+      blocks = c.bump.ensures.new_copies was quiet;
+      nodes = c.bump.ensures.new_nodes was quiet;
+      nodes_came = λ memory. ok_gives c.bump.result (c.bump.ensures.hit c.requires.cached) (ok_had_memory c.bump.result (c.bump.ensures.nodes_came was quiet));
+    })
 
 pub returns-clause-fits : goal.returns-clause-fits
 returns-clause-fits g c = λ fits.

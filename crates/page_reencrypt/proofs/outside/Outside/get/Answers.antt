@@ -124,7 +124,12 @@ returns-clause-copies g c = λ fits quiet.
     let old : OutsideView g.row.B.Denot g.row.T.Denot = record { bus = c.self.inside.bus; engine = c.self.inside.tags; pads = c.self.inside.pads } in
     let was = fits_before g.B.Bus.history (Reaches g.B.Bus.moved) g.T.Tagger.data_tag_of g.T.Tagger.node_tag_of old c.get.new.bus c.get.new.tags c.args.counters.now
     (rw (← c.self.view_is) at fits) in
-    rw (← c.self.view_is) (record { blocks = c.get.ensures.new_copies was quiet; nodes = c.get.ensures.new_nodes was quiet })
+    rw (← c.self.view_is)
+    (record {
+      blocks = c.get.ensures.new_copies was quiet;
+      nodes = c.get.ensures.new_nodes was quiet;
+      nodes_came = λ memory. c.get.ensures.nodes_came was quiet (not_refused c.get.result memory);
+    })
 
 pub returns-clause-unread : goal.returns-clause-unread
 returns-clause-unread g c = λ fits quiet.

@@ -1,4 +1,4 @@
-use Rattle.std.proofs.Common.{◌≡◌, ◌<◌, Option, None, Err, ap, sym, ◌∙◌, subst}
+use Rattle.std.proofs.Common.{◌≡◌, ◌<◌, Option, Some, None, Err, ap, sym, ◌∙◌, subst}
 use Rattle.std.specs.Option.{option_or}
 use Rattle.std.specs.Result.{result_err}
 use Rattle.sec_base.specs.Geometry.{line_count, page_of}
@@ -37,7 +37,7 @@ returns-in-Some-clause-few_copies g c = few_not c.args.self.now.counters
 pub returns-in-Some-clause-copies : goal.returns-in-Some-clause-copies
 returns-in-Some-clause-copies g c = λ quiet.
     let lines = c.args.self.now in
-    came_not (page_of c.args.line) (g.B.Bus.history lines.bus) lines.engine.made lines.counters
+    came_not (page_of c.args.line) (g.B.Bus.history lines.bus) lines.engine.made lines.counters (Some c.in-Some.stop)
 
 pub invariant_of-self : goal.invariant_of-self
 invariant_of-self g c =
