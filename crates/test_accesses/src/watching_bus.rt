@@ -1,6 +1,7 @@
 // An honest bus that counts its accesses where others see the count, and the reads of nodes of level 1, of those that were written
 // and of others, in a memory of four levels.
-ghost use Rattle.std.specs.Prelude.{◌≡◌, IfOk};
+ghost use Rattle.std.specs.Prelude.{◌≡◌, refl, IfOk};
+ghost use Rattle.bus_model.specs.Access.{CameBy, came_on};
 ghost use Rattle.bus_model.specs.BusHistory.{new_history};
 ghost use Rattle.bus_model.specs.HonestBus.{honest_history};
 
@@ -52,11 +53,13 @@ impl<'a> WatchingBus<'a> {
 impl<'a> Bus for WatchingBus<'a> {
     ghost history = { λ bus. honest_history bus.bus };
 
-    ghost moved = { λ _ _. Unit {0} };
+    ghost moved = { λ old accesses new. CameBy (honest_history old.bus) accesses (honest_history new.bus) };
 
-    ghost unmoved = { λ _. tt };
+    ghost unmoved = { λ _. refl };
 
-    ghost moved_on = { λ _ _ _ _ _. tt };
+    ghost moved_on = { λ first second third. came_on (honest_history first.bus) (honest_history second.bus) (honest_history third.bus) };
+
+    ghost told = { λ _ _ _ moved. moved };
 
     fn read_data(&mut self, line: u32) -> Result<Sealed, NoMemory> {
         self.count();

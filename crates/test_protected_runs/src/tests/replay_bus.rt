@@ -1,17 +1,18 @@
 // A bus that answers what stood there before.
-ghost use Rattle.std.specs.Prelude.{◌≡◌, ◌==◌, ◌++◌, IfOk, Some, if◌then◌else◌, not};
-ghost use Rattle.std.specs.Option.{option_map};
+ghost use Rattle.std.specs.Prelude.{◌≡◌, ◌==◌, ◌++◌, refl, IfOk, Some, if◌then◌else◌, not};
 ghost use Rattle.std.specs.Str.{bytes_eq};
 ghost use Rattle.sec_base.specs.Count.{more_by};
 ghost use Rattle.sec_base.specs.Evidence.{sealed_bytes};
 ghost use Rattle.sec_base.specs.Tag.{IsTag};
 ghost use Rattle.sec_base.specs.declared.geometry.Layout.{Layout};
+ghost use Rattle.bus_model.specs.Access.{CameBy, came_on};
 ghost use Rattle.bus_model.specs.BusHistory.{new_history};
-ghost use Rattle.bus_model.specs.HonestBus.{honest_history};
+ghost use Rattle.test_protected_runs.specs.ReplayBus.{replay_history};
 
 use bus_model::{Bus, HonestBus};
 use sec_base::{Geometry, NoMemory, Place, Sealed};
 use std::alloc::{AllocError, Global};
+use std::marker::Model;
 
 // A false answer: which access it was, its place and its bytes.
 #[derive(Debug, Drop)]
@@ -121,16 +122,28 @@ pub(crate) struct ReplayBus {
     stale: Stale,
     accesses: u64,
     lies: Lies,
-    ghost fits: { IsTag bus.geometry.layout stale.line.tag },
+}
+
+impl Model for ReplayBus {
+    ghost use Rattle.std.specs.Option.{option_map};
+    ghost use Rattle.sec_base.specs.Tag.{IsTag};
+    ghost use Rattle.test_protected_runs.specs.ReplayBus.{ReplayBusView};
+
+    ghost Value = { ReplayBusView };
+
+    ghost view = { λ bus. record {
+      kept = bus.bus;
+      accesses = bus.accesses;
+      lies = bus.lies.count;
+      lie = option_map (λ answer. record { access = answer.access; place = answer.place; bytes = answer.bytes.items }) bus.lies.first;
+    } };
+
+    ghost invariant = { λ bus. IsTag bus.bus.geometry.layout bus.stale.line.tag };
 }
 
 impl ReplayBus {
     pub(crate) fn new(alloc: Global, geometry: Geometry, below: u8) -> Result<ReplayBus, NoMemory>
-        ensures { IfOk result (λ bus. record (honest_history bus.bus) {
-          accesses = bus.accesses;
-          lies = bus.lies.count;
-          lie = option_map (λ answer. record { access = answer.access; place = answer.place; bytes = answer.bytes.items }) bus.lies.first;
-        } ≡ new_history geometry) }
+        ensures { IfOk result (λ bus. replay_history bus ≡ new_history geometry) }
     {
         Ok(ReplayBus {
             bus: HonestBus::new(alloc, geometry)?,
@@ -152,17 +165,15 @@ impl ReplayBus {
 }
 
 impl Bus for ReplayBus {
-    ghost history = { λ bus. record (honest_history bus.bus) {
-      accesses = bus.accesses;
-      lies = bus.lies.count;
-      lie = option_map (λ answer. record { access = answer.access; place = answer.place; bytes = answer.bytes.items }) bus.lies.first;
-    } };
+    ghost history = { replay_history };
 
-    ghost moved = { λ _ _. Unit {0} };
+    ghost moved = { λ old accesses new. CameBy (replay_history old) accesses (replay_history new) };
 
-    ghost unmoved = { λ _. tt };
+    ghost unmoved = { λ _. refl };
 
-    ghost moved_on = { λ _ _ _ _ _. tt };
+    ghost moved_on = { λ first second third. came_on (replay_history first) (replay_history second) (replay_history third) };
+
+    ghost told = { λ _ _ _ moved. moved };
 
     fn read_data(&mut self, line: u32) -> Result<Sealed, NoMemory> {
         let answer = self.stale.line;

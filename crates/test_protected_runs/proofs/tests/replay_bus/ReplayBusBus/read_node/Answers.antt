@@ -7,24 +7,24 @@ use Rattle.test_protected_runs.specs.declared.tests.replay_bus.FalseAnswer.{Fals
 use Rattle.test_protected_runs.proofs.tests.Replays.{first_told, own_answered, own_lied}
 use Rattle.test_protected_runs.proofs.tests.replay_bus.ReplayBusBus.read_node.Goals as goal
 
-pub returns-then-is_none-clause-ok : goal.returns-then-is_none-clause-ok
-returns-then-is_none-clause-ok c =
-    own_answered (honest_history c.args.self.now.bus) (honest_history c.read_node.new.self) _ _ _ _ (Node c.args.level c.args.index)
-    c.saturating_add-self.ensures c.in_ok-block.block c.in_ok-block.ensures.ok c.in_ok-block.ensures.answer
+pub returns-then-is_none-clause-access : goal.returns-then-is_none-clause-access
+returns-then-is_none-clause-access c =
+    rw (← c.self.view_is) (own_answered (honest_history c.self.inside.bus) (honest_history c.read_node.new.self) _ _ _ _ (Node c.args.level c.args.index)
+    c.saturating_add-self-inside.ensures c.in_ok-block.block c.in_ok-block.ensures.access c.in_ok-block.ensures.answer)
 
-pub returns-then-eq-clause-ok : goal.returns-then-eq-clause-ok
-returns-then-eq-clause-ok c =
-    own_answered (honest_history c.args.self.now.bus) (honest_history c.read_node.new.self) _ _ _ _ (Node c.args.level c.args.index)
-    c.saturating_add-self.ensures c.in_ok-block.block c.in_ok-block.ensures.ok c.in_ok-block.ensures.answer
+pub returns-then-eq-clause-access : goal.returns-then-eq-clause-access
+returns-then-eq-clause-access c =
+    rw (← c.self.view_is) (own_answered (honest_history c.self.inside.bus) (honest_history c.read_node.new.self) _ _ _ _ (Node c.args.level c.args.index)
+    c.saturating_add-self-inside.ensures c.in_ok-block.block c.in_ok-block.ensures.access c.in_ok-block.ensures.answer)
 
-pub returns-clause-ok : goal.returns-clause-ok
-returns-clause-ok c =
+pub returns-clause-access : goal.returns-clause-access
+returns-clause-access c =
     let seen : FalseAnswer → Lie = λ answer. record { access = answer.access; place = answer.place; bytes = answer.bytes.items } in
-    let told : FalseAnswer = record { access = c.saturating_add-self.result; place = Node c.args.level c.args.index; bytes = c.in_ok-bytes.bytes } in
+    let told : FalseAnswer = record { access = c.saturating_add-self-inside.result; place = Node c.args.level c.args.index; bytes = c.in_ok-bytes.bytes } in
     let stale = c.unwrap_or-answer.result in
-    let lie : Lie = record { access = c.saturating_add-self.result; place = Node c.args.level c.args.index; bytes = stale } in
-    own_lied (honest_history c.args.self.now.bus) (honest_history c.read_node.new.self) _ _ _ _ (Node c.args.level c.args.index)
-    c.saturating_add-self.ensures c.in_ok-block.block stale _ _ c.in_ok-block.ensures.ok c.in_ok-block.ensures.answer
+    let lie : Lie = record { access = c.saturating_add-self-inside.result; place = Node c.args.level c.args.index; bytes = stale } in
+    rw (← c.self.view_is) (own_lied (honest_history c.self.inside.bus) (honest_history c.read_node.new.self) _ _ _ _ (Node c.args.level c.args.index)
+    c.saturating_add-self-inside.ensures c.in_ok-block.block stale _ _ c.in_ok-block.ensures.access c.in_ok-block.ensures.answer
     (unlike stale c.in_ok-block.block (ap not c.if-eq.ensures)) c.tell.ensures.count
-    (first_told seen told c.args.self.now.lies.first c.tell.new.self.first c.args.self.now.lies.count lie c.tell.ensures.first
-    (ap (λ (bytes : List ℕ). record { access = c.saturating_add-self.result; place = Node c.args.level c.args.index; bytes = bytes }) c.in_ok-bytes.ensures.items))
+    (first_told seen told c.self.inside.lies.first c.tell.new.self.first c.self.inside.lies.count lie c.tell.ensures.first
+    (ap (λ (bytes : List ℕ). record { access = c.saturating_add-self-inside.result; place = Node c.args.level c.args.index; bytes = bytes }) c.in_ok-bytes.ensures.items)))
