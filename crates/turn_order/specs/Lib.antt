@@ -1,0 +1,3 @@
+pub mod Side
+pub mod OrderError
+pub mod TurnOrder
