@@ -1,0 +1,5 @@
+//! The order of turns of a pair of runs.
+#![tactic(auto)]
+
+#[cfg(test)]
+mod tests;
