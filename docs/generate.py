@@ -796,8 +796,9 @@ def crate_page(crate):
 
 
 def definitions_pages(crates):
-    """The pages by their names, and the place of each definition by its crate, its module and its name."""
-    crates = [crate for crate in crates if crate.specs]
+    """The pages by their names, and the place of each definition by its crate, its module and its name. Crates that offer
+    nothing, which are those of tests, have no page."""
+    crates = [crate for crate in crates if crate.specs and crate.items]
     pages, places = {}, {}
     for crate in crates:
         name = f"{BY_CRATE}/{crate.name}.md"
