@@ -4,3 +4,4 @@ pub mod BlockCopies
 pub mod Orders
 pub mod Havings
 pub mod Hads
+pub mod BlocksMade

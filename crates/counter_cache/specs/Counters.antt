@@ -1,5 +1,5 @@
 -- What contracts see of the counters of all pages: the tree over their counter blocks, and the copies of counter blocks.
-use Rattle.std.specs.Prelude.{◌≡◌, ◌⊎◌, ℕ, ◌*◌, ◌%◌, ◌<◌, ◌≤◌, List, [], ◌∷◌, ◌++◌, length, true, false, Option, Some, None}
+use Rattle.std.specs.Prelude.{◌≡◌, ◌≢◌, ◌⊎◌, ℕ, ◌*◌, ◌%◌, ◌<◌, ◌≤◌, List, [], ◌∷◌, ◌++◌, length, true, false, Option, Some, None}
 use Rattle.std.specs.Option.{option_map}
 use Rattle.sec_base.specs.Geometry.{GeometryView, page_count}
 use Rattle.sec_base.specs.LastMessage.{last_node}
@@ -115,6 +115,12 @@ counter_accesses levels = 2 * path_accesses levels
 -- a page's block was never made before the call, or was read from its place
 abbrev pub CameFrom : List Message → BusHistory → BusHistory → ℕ → Type 0
 CameFrom made old new page = NodeCame made 0 page old new
+
+-- Each counter block that has a copy had one before and has the same last message, or was read from its place, or was never
+-- made: so was one that went out with other counters, and came again.
+abbrev pub BlocksCameUnlessHeld : CountersView → BusHistory → List Message → CountersView → BusHistory → List Message → Type 0
+BlocksCameUnlessHeld counters old made counters' new made' = (page : ℕ) → cached_block counters' page ≢ None →
+    ((cached_block counters page ≢ None) × (last_node 0 page made' ≡ last_node 0 page made)) ⊎ NodeCame made' 0 page old new
 
 -- The block is the copy that a page has; where it has none, one with the tag that the tree keeps of the page's block after it,
 -- or zeros, where it keeps none.

@@ -24,7 +24,7 @@ ghost use Rattle.split_counter.specs.CounterBlock.{IsCounterBlock, after_bump, b
 ghost use Rattle.bonsai_tree.specs.Node.{CachedNode, level_blocks, no_tag, page_block};
 ghost use Rattle.bonsai_tree.specs.NodeCache.{most_copies};
 ghost use Rattle.bonsai_tree.specs.Tree.{CameUnlessHeld, IsFetchPlace, IsNodeFrom, NodesAreMade, NodesHoldLast, PathWasRead, SlotsAreTags, UnmadeAreUnread, WasReadUp, cached_node, cached_nodes, path_accesses};
-ghost use Rattle.counter_cache.specs.Counters.{AreCopies, AreHad, CameFrom, HoldsCounters, IsBumped, IsHad, LeavesClean, OnlyLeavingIsMade, SameCounters, cached_block, cached_pages, counter_accesses, counters_in, leaving_page, left_by, most_blocks, set_of, ways_beside};
+ghost use Rattle.counter_cache.specs.Counters.{AreCopies, AreHad, BlocksCameUnlessHeld, CameFrom, HoldsCounters, IsBumped, IsHad, LeavesClean, OnlyLeavingIsMade, SameCounters, cached_block, cached_pages, counter_accesses, counters_in, leaving_page, left_by, most_blocks, set_of, ways_beside};
 ghost use Rattle.counter_cache.specs.Having.{Has};
 
 use bonsai_tree::Tree;
@@ -162,6 +162,9 @@ impl Counters {
         ensures nodes_came { HoldsCounters (tags_of T.data_tag_of T.node_tag_of) self.old (B.history bus.old) tags.old →
             tags.new.evidence ≡ None → result ≢ Err no_memory →
             CameUnlessHeld self.old.tree (B.history bus.old) tags.old.made self.new.tree (B.history bus.new) tags.new.made }
+        ensures blocks_came { HoldsCounters (tags_of T.data_tag_of T.node_tag_of) self.old (B.history bus.old) tags.old →
+            tags.new.evidence ≡ None → OnOk result (BlocksCameUnlessHeld
+            self.old (B.history bus.old) tags.old.made self.new (B.history bus.new) tags.new.made) }
 
         // The least recently used copy of a full set goes out for a block that comes. Where it was not changed, there are no more
         // accesses than a fetch may make. All others stay as they are, and in their order. A page whose call is refused has no
@@ -289,6 +292,9 @@ impl Counters {
         ensures nodes_came { HoldsCounters (tags_of T.data_tag_of T.node_tag_of) self.old (B.history bus.old) tags.old →
             tags.new.evidence ≡ None → result ≢ Err no_memory →
             CameUnlessHeld self.old.tree (B.history bus.old) tags.old.made self.new.tree (B.history bus.new) tags.new.made }
+        ensures blocks_came { HoldsCounters (tags_of T.data_tag_of T.node_tag_of) self.old (B.history bus.old) tags.old →
+            tags.new.evidence ≡ None → OnOk result (BlocksCameUnlessHeld
+            self.old (B.history bus.old) tags.old.made self.new (B.history bus.new) tags.new.made) }
 
         // Copies go and stay as in `get`, but the page's own has the new counters and is changed, unless the line is spent.
         ensures goes { (other : ℕ) → leaving_page self.old page ≡ Some other → OnOk result (cached_block self.new other ≡ None) }

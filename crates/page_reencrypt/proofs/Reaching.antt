@@ -25,6 +25,7 @@ use Rattle.bonsai_tree.specs.Node.{path_index}
 use Rattle.bonsai_tree.specs.Tree.{IsFetchPlace, NodesHoldLast, PathWasRead, TreeView, UnmadeAreUnread, above}
 use Rattle.bonsai_tree.proofs.Climbs.{came_after, came_before, read_up_held, read_up_on, unless_held_on, unmade_before}
 use Rattle.counter_cache.specs.Counters.{CountersView, SameCounters, cached_pages, counter_accesses, counters_in}
+use Rattle.counter_cache.proofs.BlocksMade.{blocks_held_on, blocks_held_after}
 use Rattle.checked_bus.proofs.Writes.{writes_on}
 use Rattle.page_reencrypt.specs.Consistency.{IsConsistent}
 use Rattle.page_reencrypt.specs.Contents.{HoldsLast, NodesSay, bytes_of, counter_in, line_bytes, lines_encrypted}
@@ -58,6 +59,7 @@ came_not page history made counters stop = record {
   blocks = λ other cached. inl cached;
   nodes = λ level index copied. read_up_held counters.tree made level index history history copied;
   nodes_came = λ memory level index copied. inl (copied, refl);
+  blocks_came = λ goes other copied. inl (copied, refl);
 }
 
 going : None ≢ Some NoMemory
@@ -86,6 +88,7 @@ came_more page first second third made made' made'' counters counters' stop more
           | inr rose ↦ inr (inr (omega (arith, rose, more (node_place level index))))
         ]
       ];
+  blocks_came = λ goes. blocks_held_after counters counters' made made' made'' first second third more (last 0) (a.blocks_came refl);
 }
 
 came_on : {T : Type 0} (page : ℕ) (first second third : BusHistory) (engine engine' engine'' : TagEngineView T) (counters counters' counters'' : CountersView)
@@ -111,6 +114,9 @@ came_on page first second third engine engine' engine'' counters counters' count
       nodes_came = λ memory.
           unless_held_on counters.tree counters'.tree counters''.tree engine.made engine'.made engine''.made first second third step.reads more.reads
           (a.nodes_came going) (b.nodes_came memory);
+      blocks_came = λ goes.
+          blocks_held_on counters counters' counters'' engine.made engine'.made engine''.made first second third step.reads more.reads
+          (a.blocks_came refl) (b.blocks_came goes);
     }
 
 -- a path was read, and more was read since

@@ -19,6 +19,7 @@ use Rattle.bonsai_tree.specs.NodeCache.{copy_of}
 use Rattle.bonsai_tree.proofs.LevelBlocks.{block_listed, blocks-append}
 use Rattle.bonsai_tree.proofs.MadeSlots.{slots_on}
 use Rattle.counter_cache.specs.Counters.{CountersView, OnlyLeavingIsMade, cached_block, counters_in, leaving_page}
+use Rattle.counter_cache.proofs.BlocksMade.{leaving_listed}
 use Rattle.page_reencrypt.specs.Contents.{BlocksSayEntries, NodesSay, counter_in, never_written}
 use Rattle.page_reencrypt.specs.SealedLines.{AreOfPages, IsOfPage}
 use Rattle.page_reencrypt.proofs.RisingPairs.{last_listed}
@@ -88,35 +89,6 @@ copy_says used made counters page line bytes is says of_page =
     let here : counters_in counters made page ≡ block_of bytes = ap (λ (c : Option CachedNode). block_of (current_of c (last_node 0 page made))) is in
     let said : counter_in used line ≡ counter_of (place_of line) (block_of bytes) = says line of_page ∙ ap (counter_of (place_of line)) here in
     subst (λ (c : Counter). (c ≡ never_written) ⊎ Contains used (line, c)) said (last_or_none used line (last_pair line used) refl)
-
-none_listed : (x : ℕ × List ℕ) → ¬ Contains [] x
-none_listed x listed = omega (arith, listed.1)
-
-first_listed : (x y : ℕ × List ℕ) → Contains (y ∷ []) x → y ≡ x
-first_listed x y (zero, within, there) = there
-first_listed x y (suc k, within, there) = absurd (omega (arith, within))
-
-one_listed : (blocks : List (ℕ × List ℕ)) (x y : ℕ × List ℕ) → blocks ≡ y ∷ [] → Contains blocks x → y ≡ x
-one_listed blocks x y is listed = first_listed x y (subst (λ (b : List (ℕ × List ℕ)). Contains b x) is listed)
-
--- it is the only block that was made since
-leaving_listed : (counters : CountersView) (page : ℕ) (made made' more : List Message) (other : ℕ) (bytes : List ℕ) → OnlyLeavingIsMade counters page made made' →
-    made' ≡ made ++ more → Contains more (Node 0 other bytes) →
-    (leaving_page counters page ≡ Some other) × (cached_block counters other ≡ Some (record { block = bytes; changed = true }))
-leaving_listed counters page made made' more other bytes only adds listed =
-    let here : Contains (level_blocks 0 more) (other, bytes) = block_listed 0 other bytes more listed in
-    let grew : level_blocks 0 made' ≡ level_blocks 0 made ++ level_blocks 0 more = ap (λ (m : List Message). level_blocks 0 m) adds ∙ blocks-append 0 made more in
-    elim only [
-      | inl same ↦
-          let none : level_blocks 0 more ≡ [] =
-          append_cancel_left (level_blocks 0 made) (level_blocks 0 more) [] (sym grew ∙ same ∙ sym (append-nil (level_blocks 0 made))) in
-          absurd (none_listed (other, bytes) (subst (λ (b : List (ℕ × List ℕ)). Contains b (other, bytes)) none here))
-      | inr one ↦
-          let only_one : level_blocks 0 more ≡ (one.other, one.block) ∷ [] =
-          append_cancel_left (level_blocks 0 made) (level_blocks 0 more) ((one.other, one.block) ∷ []) (sym grew ∙ one.one) in
-          let is : (one.other, one.block) ≡ (other, bytes) = one_listed (level_blocks 0 more) (other, bytes) (one.other, one.block) only_one here in
-          subst (λ (b : ℕ × List ℕ). (leaving_page counters page ≡ Some b.0) × (cached_block counters b.0 ≡ Some (record { block = b.1; changed = true }))) is (one.leaves, one.changed)
-    ]
 
 -- so blocks say entries still where counters were had
 pub says_had : (geometry : GeometryView) (used : List (ℕ × Counter)) (counters : CountersView) (page : ℕ) (old new : BusHistory) (made made' : List Message) →

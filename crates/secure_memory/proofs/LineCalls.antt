@@ -350,6 +350,10 @@ module _ {B T : Type 0} (history : B → BusHistory) (bus_moved : B → B → Ty
 
     -- The blocks and nodes that have copies
 
+    none_of_both : (stop before : Option MemStop) → option_or stop before ≡ None → stop ≡ None
+    none_of_both None before none = refl
+    none_of_both (Some stop) before none = absurd (cc)
+
     came_so : (first second : SecureRamView B T) (page : ℕ) → second.lines.counters.tree.geometry ≡ first.lines.counters.tree.geometry →
         KeepsFew first.lines.counters second.lines.counters → (stop : Option MemStop) → second.lines.stopped ≡ option_or stop first.lines.stopped →
         (IsQuiet second →
@@ -366,6 +370,7 @@ module _ {B T : Type 0} (history : B → BusHistory) (bus_moved : B → B → Ty
       nodes = λ quiet. (came quiet).nodes;
       nodes_came = λ quiet memory.
           (came quiet).nodes_came (λ want. memory (stops ∙ ap (λ (s : Option MemStop). option_or s first.lines.stopped) want));
+      blocks_came = λ quiet goes. (came quiet).blocks_came (none_of_both stop first.lines.stopped (sym stops ∙ goes));
     }
 
     read_copies : (first : SecureRamView B T) (answer : Result (List ℕ) MemStop) → first.lines.stopped ≡ None →
@@ -384,7 +389,7 @@ module _ {B T : Type 0} (history : B → BusHistory) (bus_moved : B → B → Ty
         let between : SecureRamView B T = record { lines = mid; ways = old.ways } in
         copies_on history bus_moved tags (IsLineOf old.lines) old between new w.moves
         (own_moves_after history bus_moved tags old.lines mid new.lines w.moves r.moves)
-        (λ (want : mid.stopped ≡ Some NoMemory). let none : mid.stopped ≡ None = w.stopped ∙ going in absurd (cc))
+        (λ stop (want : mid.stopped ≡ Some stop). let none : mid.stopped ≡ None = w.stopped ∙ going in absurd (cc))
         (written_copies between way (Ok tt) w) (read_copies between answer (w.stopped ∙ going) r)
 
     -- no node was read that was never made

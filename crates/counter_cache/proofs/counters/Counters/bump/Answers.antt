@@ -18,7 +18,7 @@ use Rattle.bonsai_tree.specs.Node.{current_of}
 use Rattle.bonsai_tree.specs.NodeCache.{copy_of}
 use Rattle.bonsai_tree.specs.Tree.{cached_node}
 use Rattle.counter_cache.specs.Counters.{CountersView, cached_block, cached_pages, counters_in}
-use Rattle.counter_cache.proofs.BlockCopies.{blocks_put, few_blocks, pages_inside, same_pages}
+use Rattle.counter_cache.proofs.BlockCopies.{blocks_put, cached_held, few_blocks, held_cached, pages_inside, same_pages}
 use Rattle.counter_cache.proofs.Blocks.{counters_of_copy}
 use Rattle.counter_cache.proofs.Hads.{had_over}
 use Rattle.counter_cache.proofs.Havings.{holds_changed}
@@ -104,6 +104,15 @@ pub returns-clause-nodes_came : goal.returns-clause-nodes_came
 returns-clause-nodes_came g c = λ holds quiet memory level index held.
     c.in_ok-block.ensures.nodes_came holds quiet (λ (is : Ok c.in_ok-block.block ≡ Err NoMemory). cc) level index
     (subst (λ (v : CountersView). cached_node v.tree level index ≢ None) c.self.view_is held)
+
+pub returns-clause-blocks_came : goal.returns-clause-blocks_came
+returns-clause-blocks_came g c = λ holds quiet page held.
+    c.in_ok-block.ensures.blocks_came holds quiet page
+    (subst (λ (v : CountersView). cached_block v page ≢ None) c.self.view_is
+    (cached_held (record { tree = c.self.inside.tree; blocks = c.self.inside.blocks }) page c.self.invariant.blocks.cache
+    (same_pages c.self.inside.blocks c.change.new.self c.args.page c.change.ensures.cache
+    (subst (λ (v : CountersView). Contains (cached_pages v) c.args.page) (sym c.self.view_is) c.in_ok-block.ensures.cached) c.change.ensures.same page
+    (held_cached (record { tree = c.self.inside.tree; blocks = c.change.new.self }) page held))))
 
 pub returns-clause-checked : goal.returns-clause-checked
 returns-clause-checked g c =

@@ -1,14 +1,16 @@
-use Rattle.std.proofs.Common.{◌≡◌, ℕ, List, length, Option, Some, None, Ok, ap, sym, ◌∙◌, subst, rules}
+use Rattle.std.proofs.Common.{◌≡◌, inl, inr, ℕ, List, length, Option, Some, None, Ok, ap, sym, ◌∙◌, subst, rules}
 use Rattle.std.specs.Result.{result_err}
 use Rattle.sec_base.specs.declared.stop.MemStop.{MemStop}
 use Rattle.sec_base.specs.declared.stop.MemStop.TheVariants.{NoMemory}
 use Rattle.sec_base.proofs.Results.{stop_is}
 use Rattle.cache_set.specs.Cache.{copy_at}
+use Rattle.tag_engine.specs.TagEngine.{TagEngineView}
 use Rattle.checked_bus.specs.Accesses.{WritesMessages}
 use Rattle.checked_bus.specs.Steps.{unwritten_in}
 use Rattle.split_counter.specs.CounterBlock.{block_of}
 use Rattle.counter_cache.specs.Counters.{CountersView}
 use Rattle.counter_cache.proofs.BlockCopies.{few_blocks, latest_cached, pages_inside, stays_all}
+use Rattle.counter_cache.proofs.BlocksMade.{blocks_came}
 use Rattle.counter_cache.proofs.Havings.{going, has_pages, has_writes}
 use Rattle.counter_cache.proofs.counters.Counters.get.Goals as goal
 
@@ -38,6 +40,16 @@ returns-in_err-bring-clause-nodes_came g c = λ holds quiet memory.
 
 pub returns-clause-nodes_came : goal.returns-clause-nodes_came
 returns-clause-nodes_came g c = λ holds quiet memory. c.in_ok-bring.ensures.has.came holds quiet going
+
+pub returns-clause-blocks_came : goal.returns-clause-blocks_came
+returns-clause-blocks_came g c = λ holds quiet.
+    blocks_came c.args.self.now c.bring.new.self c.args.page c.args.tags.now.made c.bring.new.tags.made c.in_ok-bring.ensures.has.moves.more
+    (g.B.Bus.history c.args.bus.now) (g.B.Bus.history c.bring.new.bus) c.in_ok-bring.ensures.written c.in_ok-bring.ensures.has.moves.made
+    (λ cached. ap (λ (e : TagEngineView g.row.T.Denot). e.made) (c.in_ok-bring.ensures.hit cached).3) c.in_ok-bring.ensures.goes c.in_ok-bring.ensures.stays
+    (λ held. elim (c.in_ok-bring.ensures.has.copied holds quiet c.args.page held) [
+      | inl was ↦ inl was
+      | inr came ↦ inr came.1
+    ])
 
 pub returns-in_err-bring-clause-writes : goal.returns-in_err-bring-clause-writes
 returns-in_err-bring-clause-writes g c = λ more is.

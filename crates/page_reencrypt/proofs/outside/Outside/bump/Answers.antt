@@ -25,6 +25,7 @@ returns-clause-copies g c = λ fits quiet.
       blocks = c.bump.ensures.new_copies was quiet;
       nodes = c.bump.ensures.new_nodes was quiet;
       nodes_came = λ memory. ok_gives c.bump.result (c.bump.ensures.hit c.requires.cached) (ok_had_memory c.bump.result (c.bump.ensures.nodes_came was quiet));
+      blocks_came = λ goes. ok_gives c.bump.result (c.bump.ensures.hit c.requires.cached) (c.bump.ensures.blocks_came was quiet);
     })
 
 pub returns-clause-fits : goal.returns-clause-fits

@@ -7,7 +7,7 @@ use Rattle.bonsai_tree.specs.Tree.{SlotsAreTags}
 use Rattle.page_reencrypt.specs.Contents.{NodesSay}
 use Rattle.page_reencrypt.specs.Outside.{AreConsistent, CountersSay, HaveLast, HaveLastNodes, OutsideView, terms_of}
 use Rattle.page_reencrypt.specs.SealedLines.{AreOfPages}
-use Rattle.page_reencrypt.proofs.NodeSteps.{fits_after, fits_before, node_step, not_refused, ok_had_memory, ok_map, shows_by}
+use Rattle.page_reencrypt.proofs.NodeSteps.{fits_after, fits_before, node_step, not_refused, ok_had_memory, ok_map, shows_by, unless_stopped}
 use Rattle.page_reencrypt.proofs.SayingNodes.{says_had}
 use Rattle.page_reencrypt.proofs.outside.Outside.get.Goals as goal
 
@@ -129,6 +129,7 @@ returns-clause-copies g c = λ fits quiet.
       blocks = c.get.ensures.new_copies was quiet;
       nodes = c.get.ensures.new_nodes was quiet;
       nodes_came = λ memory. c.get.ensures.nodes_came was quiet (not_refused c.get.result memory);
+      blocks_came = λ goes. unless_stopped c.get.result goes (c.get.ensures.blocks_came was quiet);
     })
 
 pub returns-clause-unread : goal.returns-clause-unread
