@@ -76,14 +76,6 @@ held_cached counters page held = listed_at counters.blocks page (copied_some (wa
 pub latest_cached : (counters : CountersView) (page : ℕ) → IsLatest counters.blocks page → Contains (cached_pages counters) page
 latest_cached counters page latest = listed_at counters.blocks page (latest_found page (set_at counters.blocks page) latest)
 
--- a copy that changes is of a page that had one
-pub same_pages : (blocks blocks' : List (List Way)) (page : ℕ) → IsCache block_sets blocks' → Contains (places blocks) page →
-    ((other : ℕ) → other ≢ page → way_at blocks' other ≡ way_at blocks other) → (other : ℕ) → Contains (places blocks') other → Contains (places blocks) other
-same_pages blocks blocks' page cache there same other listed = elim (cases_eq other page) [
-  | inl here ↦ subst (λ (p : ℕ). Contains (places blocks) p) (sym here) there
-  | inr apart ↦ listed_at blocks other (subst (λ (o : Option Way). IsSome o) (same other apart) (found_at block_sets blocks' other cache listed))
-]
-
 pub few_blocks : (geometry : GeometryView) (blocks : List (List Way)) → AreBlocks geometry blocks → length (places blocks) ≤ most_blocks
 few_blocks geometry blocks are = omega (arith, few_in block_sets 0 blocks are.cache.sets_are, are.cache.counted)
 
@@ -97,19 +89,6 @@ pub pages_inside : (geometry : GeometryView) (geometry' : GeometryView) (blocks 
 pages_inside geometry geometry' blocks same are page listed =
     subst (λ (l : GeometryView). page < page_count l) same
     (some_inside geometry page (way_at blocks page) (are.pages page) (found_at block_sets blocks page are.cache listed))
-
--- where a page's own copy stays, and those of all others
-pub stays_all : (counters counters' : CountersView) (page : ℕ) →
-    (Contains (cached_pages counters) page → cached_block counters' page ≡ cached_block counters page) →
-    ((other : ℕ) → other ≢ page → leaving_page counters page ≢ Some other → cached_block counters' other ≡ cached_block counters other) →
-    (other : ℕ) (copy : CachedNode) → leaving_page counters page ≢ Some other → cached_block counters other ≡ Some copy → cached_block counters' other ≡ Some copy
-stays_all counters counters' page hit same other copy stays found = elim (cases_eq other page) [
-  | inr apart ↦ same other apart stays ∙ found
-  | inl here ↦
-      let held : cached_block counters page ≡ Some copy = ap (λ (p : ℕ). cached_block counters p) (sym here) ∙ found in
-      let some : cached_block counters page ≢ None = λ none. let both : None ≡ Some copy = sym none ∙ held in absurd (cc) in
-      ap (λ (p : ℕ). cached_block counters' p) here ∙ hit (held_cached counters page some) ∙ held
-]
 
 -- Which blocks were made
 

@@ -2,7 +2,7 @@
 use Rattle.std.proofs.Common.{◌≡◌, ◌≢◌, ◌⊎◌, inl, inr, ℕ, zero, suc, true, List, [], ◌∷◌, ◌++◌, Option, Some, None, Contains, refl, ap, sym, ◌∙◌, subst, arith, append_assoc}
 use Rattle.std.proofs.lemmas.Bool.{cases_eq}
 use Rattle.std.proofs.lemmas.List.{append-nil, append_cancel_left}
-use Rattle.sec_base.specs.Count.{Rose, RoseBy}
+use Rattle.sec_base.specs.Count.{RoseBy}
 use Rattle.sec_base.specs.LastMessage.{last_node, node_part}
 use Rattle.sec_base.specs.declared.message.Message.{Message}
 use Rattle.sec_base.specs.declared.message.Message.TheVariants.{Line, Node}
@@ -82,8 +82,8 @@ module _ (counters counters' : CountersView) (page : ℕ) (made made' more : Lis
   own_last none =
       ap (λ (m : List Message). last_node 0 page m) adds
       ∙ unlisted_last page made more (λ block listed.
-          let both : None ≡ Some (record { block = block; changed = true }) = sym none ∙ (leaving_listed counters page made made' more page block only adds listed).1 in
-          absurd (cc))
+      let both : None ≡ Some (record { block = block; changed = true }) = sym none ∙ (leaving_listed counters page made made' more page block only adds listed).1 in
+      absurd (cc))
 
   own_came : cached_block counters page ≡ None → CameFrom made old new page → NodeCame made' 0 page old new
   own_came none (inl unmade) = inl (own_last none ∙ unmade)

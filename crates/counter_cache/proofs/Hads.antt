@@ -7,7 +7,7 @@ use Rattle.sec_base.specs.declared.message.Message.{Message}
 use Rattle.sec_base.specs.declared.place.Place.TheVariants.{Node as node_place}
 use Rattle.sec_base.proofs.Results.{some_or_none}
 use Rattle.bonsai_tree.specs.Node.{CachedNode}
-use Rattle.bonsai_tree.specs.Tree.{TreeView, IsKept, IsNodeFrom}
+use Rattle.bonsai_tree.specs.Tree.{IsKept, IsNodeFrom}
 use Rattle.bonsai_tree.proofs.PathCalls.{not_from_one}
 use Rattle.counter_cache.specs.Counters.{CountersView, IsCopyOrTagged, IsHad, cached_block}
 use Rattle.sec_base.specs.Geometry.{GeometryView}
@@ -20,15 +20,6 @@ pub had_tagged : (tag_of : Message → List ℕ) (counters counters' : CountersV
 had_tagged tag_of counters counters' made' page before after bytes none tagged accepted = record {
   copy_or_tagged = subst (λ (o : Option CachedNode). IsCopyOrTagged o tag_of counters'.tree made' page bytes) (sym none) tagged;
   accepted = accepted;
-}
-
--- the same over a tree that is the same
-pub had_over : (tag_of : Message → List ℕ) (counters counters' counters'' : CountersView) (made' : List Message) (page : ℕ) (before after : Option Evidence)
-    (bytes : List ℕ) → counters''.tree ≡ counters'.tree → IsHad tag_of counters counters' made' page before after bytes →
-    IsHad tag_of counters counters'' made' page before after bytes
-had_over tag_of counters counters' counters'' made' page before after bytes tree had = record {
-  copy_or_tagged = subst (λ (t : TreeView). IsCopyOrTagged (cached_block counters page) tag_of t made' page bytes) (sym tree) had.copy_or_tagged;
-  accepted = had.accepted;
 }
 
 -- evidence of a page's own block is not that of the nodes that were read before it

@@ -1,5 +1,5 @@
 -- What contracts see of the counters of all pages: the tree over their counter blocks, and the copies of counter blocks.
-use Rattle.std.specs.Prelude.{◌≡◌, ◌≢◌, ◌⊎◌, ℕ, ◌*◌, ◌%◌, ◌<◌, ◌≤◌, List, [], ◌∷◌, ◌++◌, length, true, false, Option, Some, None}
+use Rattle.std.specs.Prelude.{◌≡◌, ◌≢◌, ◌⊎◌, ℕ, ◌*◌, ◌<◌, ◌≤◌, List, [], ◌∷◌, ◌++◌, length, true, false, Option, Some, None}
 use Rattle.std.specs.Option.{option_map}
 use Rattle.sec_base.specs.Geometry.{GeometryView, page_count}
 use Rattle.sec_base.specs.LastMessage.{last_node}
@@ -7,12 +7,10 @@ use Rattle.sec_base.specs.declared.evidence.Evidence.{Evidence}
 use Rattle.sec_base.specs.declared.evidence.Evidence.TheVariants.{Collision}
 use Rattle.sec_base.specs.declared.message.Message.{Message}
 use Rattle.cache_set.specs.declared.way.Way.{Way}
-use Rattle.cache_set.specs.CacheSet.{without}
-use Rattle.cache_set.specs.Cache.{IsCache, place_of, places, set_at, victim_for, way_at}
+use Rattle.cache_set.specs.Cache.{IsCache, place_of, places, victim_for, way_at}
 use Rattle.bus_model.specs.BusHistory.{BusHistory}
 use Rattle.tag_engine.specs.TagEngine.{TagEngineView}
-use Rattle.split_counter.specs.declared.bumped.Bumped.{Bumped}
-use Rattle.split_counter.specs.CounterBlock.{CounterBlockView, after_bump, block_of, bumped, counter_of}
+use Rattle.split_counter.specs.CounterBlock.{CounterBlockView, block_of}
 use Rattle.bonsai_tree.specs.Node.{CachedNode, current_of, level_blocks, page_block}
 use Rattle.bonsai_tree.specs.NodeCache.{copy_of, most_copies}
 use Rattle.bonsai_tree.specs.Tree.{HoldsTree, IsKept, NodeCame, TreeView, cached_nodes, path_accesses}
@@ -50,20 +48,6 @@ counters_in counters made page = block_of (current_page counters made page)
 -- use. None does where the page has a copy.
 abbrev pub leaving_page : CountersView → ℕ → Option ℕ
 leaving_page counters page = option_map place_of (victim_for counters.blocks page)
-
--- which set has the copy of a page's block
-abbrev pub set_of : ℕ → ℕ
-set_of page = page % block_sets
-
--- what is left of a set's ways where a page leaves, or none does
-abbrev pub left_by : Option ℕ → List Way → List Way
-left_by None ways = ways
-left_by (Some page) ways = without page ways
-
--- The ways beside that of a page in its set once the page comes: those before, in their order, but its own and that of the page
--- that leaves.
-abbrev pub ways_beside : CountersView → ℕ → List Way
-ways_beside counters page = without page (left_by (leaving_page counters page) (set_at counters.blocks page))
 
 -- it was not changed, or none goes out
 abbrev pub LeavesClean : CountersView → ℕ → Type 0
@@ -116,7 +100,7 @@ counter_accesses levels = 2 * path_accesses levels
 abbrev pub CameFrom : List Message → BusHistory → BusHistory → ℕ → Type 0
 CameFrom made old new page = NodeCame made 0 page old new
 
--- Each counter block that has a copy had one before and has the same last message, or was read from its place, or was never
+-- Each page whose block has a copy had one before and has the same last block; or its block was read from its place, or never
 -- made: so was one that went out with other counters, and came again.
 abbrev pub BlocksCameUnlessHeld : CountersView → BusHistory → List Message → CountersView → BusHistory → List Message → Type 0
 BlocksCameUnlessHeld counters old made counters' new made' = (page : ℕ) → cached_block counters' page ≢ None →
@@ -140,12 +124,3 @@ pub record AreHad (tag_of : Message → List ℕ) (counters counters' : Counters
   pub bytes : List ℕ
   pub had : IsHad tag_of counters counters' made' page before after bytes
   pub spelled : block ≡ block_of bytes
-
--- A bump of the line at a place comes to this by counters of a block that was had, and those after it are the page's: the same
--- ones where the line is spent.
-pub record IsBumped (tag_of : Message → List ℕ) (counters counters' : CountersView) (made' : List Message) (page place limit : ℕ) (before after : Option Evidence)
-    (outcome : Bumped) : Type 0 where
-  pub bytes : List ℕ
-  pub had : IsHad tag_of counters counters' made' page before after bytes
-  pub comes : outcome ≡ bumped limit (counter_of place (block_of bytes))
-  pub counted : counters_in counters' made' page ≡ (after_bump place limit (block_of bytes)).1

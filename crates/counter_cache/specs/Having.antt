@@ -1,5 +1,5 @@
 -- What a call makes of the counters, the bus and the tag engine that has a page's block on the chip, or makes room for one: no
--- counter changes. It serves private contracts alone.
+-- counter changes.
 use Rattle.std.specs.Prelude.{◌≡◌, ◌≢◌, ◌⊎◌, ℕ, List, length, Option, Some, None}
 use Rattle.sec_base.specs.Count.{Rose}
 use Rattle.sec_base.specs.Evidence.{evidence_place}

@@ -51,11 +51,6 @@ shows_by (Some evidence) shown = inr (shown (λ none. cc))
 pub not_refused : {A : Type 0} (result : Result A MemStop) → result_err result ≢ Some NoMemory → result ≢ Err NoMemory
 not_refused result goes_on is = goes_on (ap result_err is)
 
--- what holds of an answer, where the call did not stop
-pub unless_stopped : {A P : Type 0} (result : Result A MemStop) → result_err result ≡ None → OnOk result P → P
-unless_stopped (Ok value) goes holds = holds
-unless_stopped (Err stop) goes holds = absurd (cc)
-
 -- messages of nodes are the last of no line
 pub last_data-nodes : (made more : List Message) (line : ℕ) → data_pairs more ≡ [] → last_data line (made ++ more) ≡ last_data line made
 unfolding data_pairs

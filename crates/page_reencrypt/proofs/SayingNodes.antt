@@ -1,7 +1,6 @@
 -- What was made of nodes says tags of their children and counters of their lines, also where more was made and used.
 use Rattle.std.proofs.Common.{◌≡◌, ◌⊎◌, inl, inr, ℕ, zero, suc, ◌<◌, ◌≤◌, true, List, [], ◌∷◌, ◌++◌, length, Option, Some, None, Contains, IsSome, unwrap_or, refl, ap, sym, ◌∙◌, subst, arith}
 use Rattle.std.specs.Option.{option_map}
-use Rattle.std.proofs.lemmas.List.{append-nil, append_cancel_left}
 use Rattle.std.proofs.lemmas.List.Elements.{Contains-append_cases, Contains-append_left}
 use Rattle.sec_base.specs.Geometry.{GeometryView, page_count, page_of}
 use Rattle.sec_base.specs.LastMessage.{data_pairs, last_node, last_pair}
@@ -14,11 +13,10 @@ use Rattle.cache_set.proofs.Listed.{listed_at}
 use Rattle.bus_model.specs.BusHistory.{BusHistory}
 use Rattle.checked_bus.specs.Steps.{SameLines}
 use Rattle.split_counter.specs.CounterBlock.{block_of, counter_of, place_of}
-use Rattle.bonsai_tree.specs.Node.{CachedNode, current_of, level_blocks}
+use Rattle.bonsai_tree.specs.Node.{CachedNode, current_of}
 use Rattle.bonsai_tree.specs.NodeCache.{copy_of}
-use Rattle.bonsai_tree.proofs.LevelBlocks.{block_listed, blocks-append}
 use Rattle.bonsai_tree.proofs.MadeSlots.{slots_on}
-use Rattle.counter_cache.specs.Counters.{CountersView, OnlyLeavingIsMade, cached_block, counters_in, leaving_page}
+use Rattle.counter_cache.specs.Counters.{CountersView, OnlyLeavingIsMade, cached_block, counters_in}
 use Rattle.counter_cache.proofs.BlocksMade.{leaving_listed}
 use Rattle.page_reencrypt.specs.Contents.{BlocksSayEntries, NodesSay, counter_in, never_written}
 use Rattle.page_reencrypt.specs.SealedLines.{AreOfPages, IsOfPage}

@@ -5,7 +5,6 @@ ghost use Rattle.std.specs.Result.{result_err};
 ghost use Rattle.sec_base.specs.Count.{Rose};
 ghost use Rattle.sec_base.specs.Geometry.{line_count, page_count, page_of};
 ghost use Rattle.sec_base.specs.LastMessage.{IsFresh};
-ghost use Rattle.sec_base.specs.Place.{IsPlace};
 ghost use Rattle.sec_base.specs.declared.counter.Counter.{Counter};
 ghost use Rattle.sec_base.specs.Evidence.{evidence_place};
 ghost use Rattle.sec_base.specs.declared.evidence.Evidence.{Evidence};
@@ -17,6 +16,7 @@ ghost use Rattle.sec_base.specs.declared.sealed.Sealed.{Sealed};
 ghost use Rattle.sec_base.specs.declared.stop.MemStop.TheVariants.{Tampered, Spent, NoMemory as no_memory};
 ghost use Rattle.bus_model.specs.Access.{Reaches};
 ghost use Rattle.bus_model.specs.BusHistory.{after_write};
+ghost use Rattle.cache_set.specs.Cache.{IsLatest};
 ghost use Rattle.tag_engine.specs.TagEngine.{after_make, tags_of};
 ghost use Rattle.pad_stream.specs.Pad.{cipher_of};
 ghost use Rattle.pad_stream.specs.PadEngine.{after_encrypt};
@@ -24,10 +24,9 @@ ghost use Rattle.pad_stream.specs.Pads.{IsBefore};
 ghost use Rattle.checked_bus.specs.Accesses.{AreCounted};
 ghost use Rattle.checked_bus.specs.SealedLine.{sealed_line};
 ghost use Rattle.checked_bus.specs.Steps.{IsAccounted, Moves as StepMoves};
-ghost use Rattle.split_counter.specs.CounterBlock.{CounterBlockView, IsCounterBlock, after_bump, block_of, bumped, counter_of, place_of};
-ghost use Rattle.split_counter.specs.declared.bumped.Bumped.TheVariants.{Line as line_counter};
+ghost use Rattle.split_counter.specs.CounterBlock.{CounterBlockView, IsCounterBlock, block_of, counter_of, place_of};
 ghost use Rattle.bonsai_tree.specs.Tree.{IsFetchPlace, PathWasRead, UnmadeAreUnread};
-ghost use Rattle.counter_cache.specs.Counters.{AreHad, SameCounters, cached_pages, counter_accesses, counters_in};
+ghost use Rattle.counter_cache.specs.Counters.{AreCopies, AreHad, SameCounters, cached_pages, counter_accesses, counters_in};
 ghost use Rattle.page_reencrypt.specs.Contents.{line_bytes, page_lines};
 ghost use Rattle.page_reencrypt.specs.Outside.{Accepts, AreAccounted, AreConsistent, AreSealedInOrder, CountersFit, CountersSay, DiffersInRoom, HasCounter, HaveLast, HaveLastNodes, HaveRisen, IsAcceptedBeside, IsNodeStep, NodesSayStill, ShowsLies, terms_of, with_room};
 ghost use Rattle.page_reencrypt.specs.SealedLines.{AreOfPages, CopiesCame, IsReadUnder, KeepsFew};
@@ -37,7 +36,7 @@ use checked_bus::{read_line, write_line};
 use counter_cache::Counters;
 use pad_stream::PadEngine;
 use sec_base::{Counter, LINE_LEN, LINES_PER_PAGE, MemStop, NoMemory, Tagger, page_of};
-use split_counter::{Bumped, CounterBlock};
+use split_counter::CounterBlock;
 use std::marker::Model;
 use tag_engine::TagEngine;
 
@@ -109,7 +108,8 @@ impl<B: Bus, T: Tagger> Outside<B, T> {
             OnOk result (PathWasRead counters.old.tree self.old.engine.made 0 page (B.history self.old.bus) (B.history self.new.bus)) }
         ensures idle { Contains (cached_pages counters.old) page →
             (B.history self.new.bus ≡ B.history self.old.bus) × (self.new.engine ≡ self.old.engine) }
-        ensures cached { OnOk result (Contains (cached_pages counters.new) page) }
+        ensures latest { OnOk result (IsLatest counters.new.blocks page) }
+        ensures copied { AreCopies counters.new }
         ensures few_copies { KeepsFew counters.old counters.new }
         ensures copies { CountersFit (terms_of B.history (Reaches B.moved) T.data_tag_of T.node_tag_of self.old) self.old counters.old →
             self.new.engine.evidence ≡ None →
@@ -137,51 +137,6 @@ impl<B: Bus, T: Tagger> Outside<B, T> {
         ensures unspent { (spent : ℕ) → result ≢ Err (Spent spent) }
     {
         counters.get(&mut self.bus, &mut self.tags, page)
-    }
-
-    // Counts up the counter of the line at a place of a page whose counters are on the chip.
-    pub(crate) fn bump(
-        &mut self,
-        counters: &mut Counters,
-        page: u32,
-        place: u8,
-        limit: u64,
-    ) -> Result<Bumped, MemStop>
-        requires inside { page < page_count counters.old.tree.geometry }
-        requires place { place < 64 }
-        requires geometry { counters.old.tree.geometry ≡ self.old.engine.geometry }
-        requires bus_geometry { (B.history self.old.bus).geometry ≡ self.old.engine.geometry }
-        requires cached { Contains (cached_pages counters.old) page }
-
-        // Nothing outside is touched, and nothing is tagged.
-        ensures ok { IsOk result }
-        ensures moved { Reaches B.moved self.old.bus self.new.bus }
-        ensures idle { (B.history self.new.bus ≡ B.history self.old.bus) × (self.new.engine ≡ self.old.engine) }
-        ensures pads { self.new.pads ≡ self.old.pads }
-        ensures geometry { counters.new.tree.geometry ≡ counters.old.tree.geometry }
-        ensures cached { Contains (cached_pages counters.new) page }
-        ensures few_copies { KeepsFew counters.old counters.new }
-        ensures copies { CountersFit (terms_of B.history (Reaches B.moved) T.data_tag_of T.node_tag_of self.old) self.old counters.old →
-            self.new.engine.evidence ≡ None →
-            CopiesCame page (B.history self.old.bus) self.old.engine.made counters.old
-            (B.history self.new.bus) self.new.engine.made counters.new None }
-        ensures pages { AreOfPages self.old.engine.geometry counters.new }
-
-        // Where the counters fit or there is evidence, they still do, and the line's counter is the next one.
-        ensures fits { CountersFit (terms_of B.history (Reaches B.moved) T.data_tag_of T.node_tag_of self.old) self.old counters.old →
-            CountersFit (terms_of B.history (Reaches B.moved) T.data_tag_of T.node_tag_of self.old) self.new counters.new }
-        ensures outcome { CountersFit (terms_of B.history (Reaches B.moved) T.data_tag_of T.node_tag_of self.old) self.old counters.old →
-            self.old.engine.evidence ≡ None →
-            IfOk result (λ outcome. outcome ≡ bumped limit (counter_of place (counters_in counters.old self.old.engine.made page))) }
-        ensures block { CountersFit (terms_of B.history (Reaches B.moved) T.data_tag_of T.node_tag_of self.old) self.old counters.old →
-            self.old.engine.evidence ≡ None → counters_in counters.new self.new.engine.made page
-            ≡ (after_bump place limit (counters_in counters.old self.old.engine.made page)).1 }
-        ensures others { CountersFit (terms_of B.history (Reaches B.moved) T.data_tag_of T.node_tag_of self.old) self.old counters.old →
-            self.old.engine.evidence ≡ None → (other : ℕ) → other ≢ page →
-            counters_in counters.new self.new.engine.made other ≡ counters_in counters.old self.old.engine.made other }
-        ensures is_line { (counter : Counter) → result ≡ Ok (line_counter counter) → 0 < counter.line }
-    {
-        counters.bump(&mut self.bus, &mut self.tags, page, place, limit)
     }
 
     // The bytes of a line, by its counter: zeros where it was never written, without an access; else what its place

@@ -438,7 +438,7 @@ fn write_next<B: Bus, T: Tagger>(
         return Err(MemStop::Spent(page));
     }
     outside.reserve()?;
-    match outside.bump(counters, page, place, limit)? {
+    match counters.count(page, place, limit) {
         Bumped::Line(counter) => {
             outside.seal(line, counter, bytes)?;
             Ok(())

@@ -370,7 +370,7 @@ module _ {B T : Type 0} (history : B → BusHistory) (bus_moved : B → B → Ty
       nodes = λ quiet. (came quiet).nodes;
       nodes_came = λ quiet memory.
           (came quiet).nodes_came (λ want. memory (stops ∙ ap (λ (s : Option MemStop). option_or s first.lines.stopped) want));
-      blocks_came = λ quiet goes. (came quiet).blocks_came (none_of_both stop first.lines.stopped (sym stops ∙ goes));
+      blocks_came = λ quiet goes. (came quiet).blocks_came (ap lasting_stop (none_of_both stop first.lines.stopped (sym stops ∙ goes)));
     }
 
     read_copies : (first : SecureRamView B T) (answer : Result (List ℕ) MemStop) → first.lines.stopped ≡ None →

@@ -7,6 +7,7 @@ use Rattle.counter_cache.specs.Counters.{cached_pages}
 use Rattle.sec_base.specs.Geometry.{page_of}
 use Rattle.sec_base.proofs.Results.{was_none}
 use Rattle.page_reencrypt.specs.Outside.{HasCounter, IsLineRead, terms_of}
+use Rattle.counter_cache.proofs.BlockCopies.{latest_cached}
 use Rattle.page_reencrypt.proofs.NextWrites.{HadCounters, counter_here, ok_where}
 use Rattle.page_reencrypt.proofs.ReadSteps.{line_read, ok_same, unread}
 use Rattle.page_reencrypt.proofs.Reaching.{IsReached}
@@ -113,6 +114,6 @@ returns g c =
           (e.checked c.in_ok-block.block refl)
           ((reaches_on g.B.Bus.moved g.met.B.Bus.moved_on) old.bus c.get.new.self.bus c.read.new.self.bus e.step.bus r.moved) r.counted r.once r.alone r.value r.fresh r.rose
           r.accounted r.shows r.found r.under r.accepted r.tampered r.unspent;
-      cached = on_success c.read.result (λ none. subst (λ (p : ℕ). Contains (cached_pages c.get.new.counters) p) c.page_of.ensures.page e.cached);
+      cached = on_success c.read.result (λ none. subst (λ (p : ℕ). Contains (cached_pages c.get.new.counters) p) c.page_of.ensures.page (latest_cached c.get.new.counters c.page_of.result e.latest));
       pages = e.pages;
     }

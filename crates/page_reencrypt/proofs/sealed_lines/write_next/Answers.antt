@@ -1,6 +1,6 @@
-use Rattle.std.proofs.Common.{◌≡◌, ◌≤◌, ℕ, inl, length, take, Option, Some, None, Contains, Ok, Err, ap, sym, ◌∙◌, subst, arith, rules}
+use Rattle.std.proofs.Common.{◌≡◌, ◌≤◌, ℕ, inl, length, take, Option, Some, None, Contains, Err, ap, sym, ◌∙◌, subst, arith, rules, refl}
 use Rattle.std.specs.Result.{result_err}
-use Rattle.sec_base.specs.Geometry.{GeometryView, page_of}
+use Rattle.sec_base.specs.Geometry.{page_of}
 use Rattle.sec_base.specs.declared.counter.Counter.{Counter}
 use Rattle.sec_base.specs.declared.evidence.Evidence.TheVariants.{Forgery}
 use Rattle.sec_base.specs.declared.place.Place.{Place}
@@ -12,17 +12,17 @@ use Rattle.bus_model.specs.Access.{Reaches, reaches_none, reaches_on}
 use Rattle.bus_model.specs.BusHistory.{BusHistory}
 use Rattle.tag_engine.specs.TagEngine.{tags_of}
 use Rattle.pad_stream.specs.Pad.{cipher_of}
-use Rattle.pad_stream.specs.PadEngine.{PadEngineView}
 use Rattle.checked_bus.specs.SealedLine.{sealed_line}
 use Rattle.checked_bus.proofs.TaggedWrites.{wrote_once}
 use Rattle.counter_cache.specs.Counters.{cached_pages, counters_in}
 use Rattle.page_reencrypt.specs.Contents.{page_lines}
 use Rattle.page_reencrypt.specs.Outside.{IsWrite, LineWrite, OutsideView, terms_of}
-use Rattle.page_reencrypt.specs.SealedLines.{AreOfPages}
 use Rattle.page_reencrypt.specs.Stops.{lasting_stop}
 use Rattle.page_reencrypt.proofs.NextWrites.{HadCounters, counted_up, counter_here, is_last, lasts, line_unwritten, line_written, mid_counters, mid_inside, mid_kept, mid_last, mid_later, mid_rooms, mid_rose, ok_where, page_overflows, page_written, refused_reached, say_same, spent_after, spent_early, stopped_early}
 use Rattle.page_reencrypt.proofs.Nodes.{not_node}
 use Rattle.page_reencrypt.proofs.ReadSteps.{before_line}
+use Rattle.counter_cache.proofs.BlockCopies.{latest_cached}
+use Rattle.page_reencrypt.proofs.CountersHad.{counted_up_by}
 use Rattle.page_reencrypt.proofs.Reaching.{HasCome, IsReached, come_idle}
 use Rattle.page_reencrypt.proofs.Reencrypting.{one_access}
 use Rattle.page_reencrypt.proofs.Sealing.{made_as_used}
@@ -118,7 +118,8 @@ returns-in_err-block-clause-cached g c = λ going.
 
 pub returns-in-Spent-clause-cached : goal.returns-in-Spent-clause-cached
 returns-in-Spent-clause-cached g c = λ going.
-    subst (λ (p : ℕ). Contains (cached_pages c.get.new.counters) p) c.page_of-page.ensures.page c.in_ok-block.ensures.cached
+    subst (λ (p : ℕ). Contains (cached_pages c.get.new.counters) p) c.page_of-page.ensures.page
+    (latest_cached c.get.new.counters c.page_of-page.result c.in_ok-block.ensures.latest)
 
 pub returns-in_err-block-clause-pages : goal.returns-in_err-block-clause-pages
 returns-in_err-block-clause-pages g c = c.in_err-block.ensures.pages
@@ -224,7 +225,7 @@ returns-in_err-reserve g c =
           ))
           (come_idle (terms_of h m d n old) (page_of c.args.line) old c.get.new.self c.reserve.new.self counters c.get.new.counters (Some NoMemory) differs.bus
           (ap (λ e. e.made) differs.engine) (ap (λ e. e.evidence) differs.engine) come));
-      cached = λ going. subst (λ (p : ℕ). Contains (cached_pages c.get.new.counters) p) c.page_of-page.ensures.page e.cached;
+      cached = λ going. subst (λ (p : ℕ). Contains (cached_pages c.get.new.counters) p) c.page_of-page.ensures.page (latest_cached c.get.new.counters c.page_of-page.result e.latest);
       pages = e.pages;
       accepted = λ at under sealed made_count quiet is.
           not_node old.engine.geometry c.page_of-page.result at
@@ -238,11 +239,8 @@ returns-in_err-reserve g c =
       hit_overflow = λ cached. let same = still cached in omega (arith, same, same_accesses);
     }
 
-pub returns-in_err-counter : goal.returns-in_err-counter
-returns-in_err-counter g c = let refused = c.in_err-counter.ensures.ok in absurd (cc)
-
-pub returns-in-Spent-2 : goal.returns-in-Spent-2
-returns-in-Spent-2 g c =
+pub returns-in-Spent-count : goal.returns-in-Spent-count
+returns-in-Spent-count g c =
     let h = g.B.Bus.history in
     let m = (Reaches g.B.Bus.moved) in
     let d = g.T.Tagger.data_tag_of in
@@ -279,28 +277,26 @@ returns-in-Spent-2 g c =
     let same_geometry : c.reserve.new.self.engine.geometry ≡ old.engine.geometry =
     ap (λ (o : OutsideView g.row.B.Denot g.row.T.Denot). o.engine.geometry) c.in_ok-reserve.ensures.taken ∙ e.step.step.geometry in
     let same_accesses = ap (λ (t : BusHistory). t.accesses) same_bus in
-    let u = c.in_ok-counter.ensures in
-    let bumped_accesses = ap (λ (t : BusHistory). t.accesses) u.idle.0 in
-    let bumped_evidence : c.bump.new.self.engine.evidence ≡ c.get.new.self.engine.evidence = ap (λ e. e.evidence) u.idle.1
-    ∙ ap (λ (o : OutsideView g.row.B.Denot g.row.T.Denot). o.engine.evidence) c.in_ok-reserve.ensures.taken in
+    let u = counted_up_by g.B.Bus.history (Reaches g.B.Bus.moved) g.T.Tagger.data_tag_of g.T.Tagger.node_tag_of c.reserve.new.self c.get.new.counters c.count.new.self c.page_of-page.result c.place_of-place.result c.args.limit c.count.result c.count.ensures.counted e.copied c.count.ensures.copies in
+    let bumped_evidence : c.reserve.new.self.engine.evidence ≡ c.get.new.self.engine.evidence = ap (λ (o : OutsideView g.row.B.Denot g.row.T.Denot). o.engine.evidence) c.in_ok-reserve.ensures.taken in
     let up = counted_up h m d n old counters c.requires.current c.args.limit c.args.line c.page_of-page.result c.place_of-place.result c.get.new.self c.get.new.counters
-    c.in_ok-block.block c.get-2.result c.of.result had ((reaches_none g.B.Bus.moved g.met.B.Bus.unmoved) c.get.new.self.bus) (reaches_on g.B.Bus.moved g.met.B.Bus.moved_on) c.reserve.new.self c.bump.new.self c.bump.new.counters
-    c.in_ok-counter.field-0 c.in_ok-reserve.ensures.taken u.moved u.idle u.pads u.geometry u.few_copies u.copies u.fits u.outcome u.block u.others in
+    c.in_ok-block.block c.get-2.result c.of.result had ((reaches_none g.B.Bus.moved g.met.B.Bus.unmoved) c.get.new.self.bus) (reaches_on g.B.Bus.moved g.met.B.Bus.moved_on) c.reserve.new.self c.reserve.new.self c.count.new.self
+    c.count.result c.in_ok-reserve.ensures.taken ((reaches_none g.B.Bus.moved g.met.B.Bus.unmoved) c.reserve.new.self.bus) (refl, refl) refl u.geometry u.few u.came u.fits (λ fit quiet. u.outcome_is) (λ fit quiet. u.now) (λ fit quiet. u.others) in
     record {
       written = spent_after h m d n old counters c.requires.current c.args.limit c.args.line c.page_of-page.result c.place_of-place.result c.get.new.self c.get.new.counters
-          c.in_ok-block.block c.get-2.result c.of.result had ((reaches_none g.B.Bus.moved g.met.B.Bus.unmoved) c.get.new.self.bus) (reaches_on g.B.Bus.moved g.met.B.Bus.moved_on) c.reserve.new.self c.bump.new.self c.bump.new.counters
-          c.in_ok-counter.field-0 up c.args.bytes.now c.requires.risen c.in-Spent-2.is c.in_default.not-Spent;
-      cached = λ going. subst (λ (p : ℕ). Contains (cached_pages c.bump.new.counters) p) c.page_of-page.ensures.page u.cached;
-      pages = subst (λ (l : GeometryView). AreOfPages l c.bump.new.counters) same_geometry u.pages;
+          c.in_ok-block.block c.get-2.result c.of.result had ((reaches_none g.B.Bus.moved g.met.B.Bus.unmoved) c.get.new.self.bus) (reaches_on g.B.Bus.moved g.met.B.Bus.moved_on) c.reserve.new.self c.reserve.new.self c.count.new.self
+          c.count.result up c.args.bytes.now c.requires.risen c.in-Spent-count.is c.in_default.not-Spent;
+      cached = λ going. subst (λ (p : ℕ). Contains (cached_pages c.count.new.self) p) c.page_of-page.ensures.page u.cached;
+      pages = u.inside old.engine.geometry e.pages;
       accepted = λ at under sealed made_count quiet is.
           not_node old.engine.geometry c.page_of-page.result at (e.found (Forgery at under sealed made_count) quiet (sym bumped_evidence ∙ is));
       once = λ quiet short. (
-        omega (arith, e.once, same_accesses, bumped_accesses, same_geometry),
-        λ other. ap (λ (t : BusHistory). t.reads (line_place other)) u.idle.0 ∙ ap (λ (t : BusHistory). t.reads (line_place other)) same_bus ∙ e.step.lines.reads other,
+        omega (arith, e.once, same_accesses, same_geometry),
+        λ other. ap (λ (t : BusHistory). t.reads (line_place other)) same_bus ∙ e.step.lines.reads other,
       );
-      few = omega (arith, e.once, same_accesses, bumped_accesses, same_geometry);
-      hit = λ cached quiet short. let same = still cached in omega (arith, same, same_accesses, bumped_accesses);
-      hit_overflow = λ cached. let same = still cached in omega (arith, same, same_accesses, bumped_accesses);
+      few = omega (arith, e.once, same_accesses, same_geometry);
+      hit = λ cached quiet short. let same = still cached in omega (arith, same, same_accesses);
+      hit_overflow = λ cached. let same = still cached in omega (arith, same, same_accesses);
     }
 
 pub returns-in_err-seal-in-Line : goal.returns-in_err-seal-in-Line
@@ -341,37 +337,34 @@ returns-in_err-seal-in-Line g c =
     let same_geometry : c.reserve.new.self.engine.geometry ≡ old.engine.geometry =
     ap (λ (o : OutsideView g.row.B.Denot g.row.T.Denot). o.engine.geometry) c.in_ok-reserve.ensures.taken ∙ e.step.step.geometry in
     let same_accesses = ap (λ (t : BusHistory). t.accesses) same_bus in
-    let u = c.in_ok-counter.ensures in
-    let bumped_accesses = ap (λ (t : BusHistory). t.accesses) u.idle.0 in
-    let bumped_evidence : c.bump.new.self.engine.evidence ≡ c.get.new.self.engine.evidence = ap (λ e. e.evidence) u.idle.1
-    ∙ ap (λ (o : OutsideView g.row.B.Denot g.row.T.Denot). o.engine.evidence) c.in_ok-reserve.ensures.taken in
+    let u = counted_up_by g.B.Bus.history (Reaches g.B.Bus.moved) g.T.Tagger.data_tag_of g.T.Tagger.node_tag_of c.reserve.new.self c.get.new.counters c.count.new.self c.page_of-page.result c.place_of-place.result c.args.limit c.count.result c.count.ensures.counted e.copied c.count.ensures.copies in
+    let bumped_evidence : c.reserve.new.self.engine.evidence ≡ c.get.new.self.engine.evidence = ap (λ (o : OutsideView g.row.B.Denot g.row.T.Denot). o.engine.evidence) c.in_ok-reserve.ensures.taken in
     let up = counted_up h m d n old counters c.requires.current c.args.limit c.args.line c.page_of-page.result c.place_of-place.result c.get.new.self c.get.new.counters
-    c.in_ok-block.block c.get-2.result c.of.result had ((reaches_none g.B.Bus.moved g.met.B.Bus.unmoved) c.get.new.self.bus) (reaches_on g.B.Bus.moved g.met.B.Bus.moved_on) c.reserve.new.self c.bump.new.self c.bump.new.counters
-    c.in_ok-counter.field-0 c.in_ok-reserve.ensures.taken u.moved u.idle u.pads u.geometry u.few_copies u.copies u.fits u.outcome u.block u.others in
+    c.in_ok-block.block c.get-2.result c.of.result had ((reaches_none g.B.Bus.moved g.met.B.Bus.unmoved) c.get.new.self.bus) (reaches_on g.B.Bus.moved g.met.B.Bus.moved_on) c.reserve.new.self c.reserve.new.self c.count.new.self
+    c.count.result c.in_ok-reserve.ensures.taken ((reaches_none g.B.Bus.moved g.met.B.Bus.unmoved) c.reserve.new.self.bus) (refl, refl) refl u.geometry u.few u.came u.fits (λ fit quiet. u.outcome_is) (λ fit quiet. u.now) (λ fit quiet. u.others) in
     let stop : result_err c.from_residual-in_err-seal-in-Line.result ≡ Some NoMemory = search rules in
     let s = c.seal.ensures in
-    let same_last : h c.seal.new.self.bus ≡ h c.bump.new.self.bus = c.in_err-seal-in-Line.ensures.err in
+    let same_last : h c.seal.new.self.bus ≡ h c.reserve.new.self.bus = c.in_err-seal-in-Line.ensures.err in
     let last_accesses = ap (λ (t : BusHistory). t.accesses) same_last in
     record {
-      written = subst (λ (s : Option MemStop). IsWrite (terms_of h m d n old) c.args.limit c.args.line c.args.bytes.now old counters c.seal.new.self c.bump.new.counters s) (sym stop)
+      written = subst (λ (s : Option MemStop). IsWrite (terms_of h m d n old) c.args.limit c.args.line c.args.bytes.now old counters c.seal.new.self c.count.new.self s) (sym stop)
           (line_unwritten h m d n old counters c.requires.current c.args.limit c.args.line c.page_of-page.result c.place_of-place.result c.get.new.self c.get.new.counters
-          c.in_ok-block.block c.get-2.result c.of.result had ((reaches_none g.B.Bus.moved g.met.B.Bus.unmoved) c.get.new.self.bus) (reaches_on g.B.Bus.moved g.met.B.Bus.moved_on) c.reserve.new.self c.bump.new.self c.bump.new.counters
-          c.in_ok-counter.field-0 up c.requires.started (e.read c.requires.fits) c.args.bytes.now c.in-Line.counter c.in-Line.is
-          (u.is_line c.in-Line.counter (ap (λ o. Ok o) c.in-Line.is)) c.of.ensures.line c.seal.new.self s.used s.made s.undone s.moves s.moved s.honest
+          c.in_ok-block.block c.get-2.result c.of.result had ((reaches_none g.B.Bus.moved g.met.B.Bus.unmoved) c.get.new.self.bus) (reaches_on g.B.Bus.moved g.met.B.Bus.moved_on) c.reserve.new.self c.reserve.new.self c.count.new.self
+          c.count.result up c.requires.started (e.read c.requires.fits) c.args.bytes.now c.in-Line.counter c.in-Line.is
+          (c.count.ensures.line c.in-Line.counter c.in-Line.is).written c.of.ensures.line c.seal.new.self s.used s.made s.undone s.moves s.moved s.honest
           c.requires.risen same_last);
-      cached = λ going. subst (λ (p : ℕ). Contains (cached_pages c.bump.new.counters) p) c.page_of-page.ensures.page u.cached;
-      pages = subst (λ (l : GeometryView). AreOfPages l c.bump.new.counters) same_geometry u.pages;
+      cached = λ going. subst (λ (p : ℕ). Contains (cached_pages c.count.new.self) p) c.page_of-page.ensures.page u.cached;
+      pages = u.inside old.engine.geometry e.pages;
       accepted = λ at under sealed made_count quiet is.
           not_node old.engine.geometry c.page_of-page.result at
           (e.found (Forgery at under sealed made_count) quiet (sym (ap (λ e. e.evidence) s.made ∙ bumped_evidence) ∙ is));
       once = λ quiet short. (
-        omega (arith, e.once, same_accesses, bumped_accesses, same_geometry, last_accesses),
-        λ other. ap (λ (t : BusHistory). t.reads (line_place other)) same_last ∙ ap (λ (t : BusHistory). t.reads (line_place other)) u.idle.0
-            ∙ ap (λ (t : BusHistory). t.reads (line_place other)) same_bus ∙ e.step.lines.reads other,
+        omega (arith, e.once, same_accesses, same_geometry, last_accesses),
+        λ other. ap (λ (t : BusHistory). t.reads (line_place other)) same_last ∙ ap (λ (t : BusHistory). t.reads (line_place other)) same_bus ∙ e.step.lines.reads other,
       );
-      few = omega (arith, e.once, same_accesses, bumped_accesses, same_geometry, last_accesses);
-      hit = λ cached quiet short. let same = still cached in omega (arith, same, same_accesses, bumped_accesses, last_accesses);
-      hit_overflow = λ cached. let same = still cached in omega (arith, same, same_accesses, bumped_accesses, last_accesses);
+      few = omega (arith, e.once, same_accesses, same_geometry, last_accesses);
+      hit = λ cached quiet short. let same = still cached in omega (arith, same, same_accesses, last_accesses);
+      hit_overflow = λ cached. let same = still cached in omega (arith, same, same_accesses, last_accesses);
     }
 
 pub returns-in_ok-seal-in-Line : goal.returns-in_ok-seal-in-Line
@@ -412,38 +405,35 @@ returns-in_ok-seal-in-Line g c =
     let same_geometry : c.reserve.new.self.engine.geometry ≡ old.engine.geometry =
     ap (λ (o : OutsideView g.row.B.Denot g.row.T.Denot). o.engine.geometry) c.in_ok-reserve.ensures.taken ∙ e.step.step.geometry in
     let same_accesses = ap (λ (t : BusHistory). t.accesses) same_bus in
-    let u = c.in_ok-counter.ensures in
-    let bumped_accesses = ap (λ (t : BusHistory). t.accesses) u.idle.0 in
-    let bumped_evidence : c.bump.new.self.engine.evidence ≡ c.get.new.self.engine.evidence = ap (λ e. e.evidence) u.idle.1
-    ∙ ap (λ (o : OutsideView g.row.B.Denot g.row.T.Denot). o.engine.evidence) c.in_ok-reserve.ensures.taken in
+    let u = counted_up_by g.B.Bus.history (Reaches g.B.Bus.moved) g.T.Tagger.data_tag_of g.T.Tagger.node_tag_of c.reserve.new.self c.get.new.counters c.count.new.self c.page_of-page.result c.place_of-place.result c.args.limit c.count.result c.count.ensures.counted e.copied c.count.ensures.copies in
+    let bumped_evidence : c.reserve.new.self.engine.evidence ≡ c.get.new.self.engine.evidence = ap (λ (o : OutsideView g.row.B.Denot g.row.T.Denot). o.engine.evidence) c.in_ok-reserve.ensures.taken in
     let up = counted_up h m d n old counters c.requires.current c.args.limit c.args.line c.page_of-page.result c.place_of-place.result c.get.new.self c.get.new.counters
-    c.in_ok-block.block c.get-2.result c.of.result had ((reaches_none g.B.Bus.moved g.met.B.Bus.unmoved) c.get.new.self.bus) (reaches_on g.B.Bus.moved g.met.B.Bus.moved_on) c.reserve.new.self c.bump.new.self c.bump.new.counters
-    c.in_ok-counter.field-0 c.in_ok-reserve.ensures.taken u.moved u.idle u.pads u.geometry u.few_copies u.copies u.fits u.outcome u.block u.others in
+    c.in_ok-block.block c.get-2.result c.of.result had ((reaches_none g.B.Bus.moved g.met.B.Bus.unmoved) c.get.new.self.bus) (reaches_on g.B.Bus.moved g.met.B.Bus.moved_on) c.reserve.new.self c.reserve.new.self c.count.new.self
+    c.count.result c.in_ok-reserve.ensures.taken ((reaches_none g.B.Bus.moved g.met.B.Bus.unmoved) c.reserve.new.self.bus) (refl, refl) refl u.geometry u.few u.came u.fits (λ fit quiet. u.outcome_is) (λ fit quiet. u.now) (λ fit quiet. u.others) in
     let s = c.seal.ensures in
     let wrote = c.in_ok-seal-in-Line.ensures.ok in
-    let put = sealed_line (tags_of d n c.bump.new.self.engine) c.args.line c.in-Line.counter
-    (cipher_of c.bump.new.self.pads.key c.args.line c.in-Line.counter c.args.bytes.now) in
-    let one = wrote_once (line_place c.args.line) put (h c.bump.new.self.bus) (h c.seal.new.self.bus) wrote in
-    let last_accesses = one_access c.args.line put (h c.bump.new.self.bus) (h c.seal.new.self.bus) wrote in
+    let put = sealed_line (tags_of d n c.reserve.new.self.engine) c.args.line c.in-Line.counter
+    (cipher_of c.reserve.new.self.pads.key c.args.line c.in-Line.counter c.args.bytes.now) in
+    let one = wrote_once (line_place c.args.line) put (h c.reserve.new.self.bus) (h c.seal.new.self.bus) wrote in
+    let last_accesses = one_access c.args.line put (h c.reserve.new.self.bus) (h c.seal.new.self.bus) wrote in
     record {
       written = line_written h m d n old counters c.requires.current c.args.limit c.args.line c.page_of-page.result c.place_of-place.result c.get.new.self c.get.new.counters
-          c.in_ok-block.block c.get-2.result c.of.result had ((reaches_none g.B.Bus.moved g.met.B.Bus.unmoved) c.get.new.self.bus) (reaches_on g.B.Bus.moved g.met.B.Bus.moved_on) c.reserve.new.self c.bump.new.self c.bump.new.counters
-          c.in_ok-counter.field-0 up c.requires.started (e.read c.requires.fits) c.args.bytes.now c.in-Line.counter c.in-Line.is
-          (u.is_line c.in-Line.counter (ap (λ o. Ok o) c.in-Line.is)) c.of.ensures.line c.seal.new.self s.used s.made s.undone s.moves s.moved s.honest
+          c.in_ok-block.block c.get-2.result c.of.result had ((reaches_none g.B.Bus.moved g.met.B.Bus.unmoved) c.get.new.self.bus) (reaches_on g.B.Bus.moved g.met.B.Bus.moved_on) c.reserve.new.self c.reserve.new.self c.count.new.self
+          c.count.result up c.requires.started (e.read c.requires.fits) c.args.bytes.now c.in-Line.counter c.in-Line.is
+          (c.count.ensures.line c.in-Line.counter c.in-Line.is).written c.of.ensures.line c.seal.new.self s.used s.made s.undone s.moves s.moved s.honest
           c.requires.risen wrote;
-      cached = λ going. subst (λ (p : ℕ). Contains (cached_pages c.bump.new.counters) p) c.page_of-page.ensures.page u.cached;
-      pages = subst (λ (l : GeometryView). AreOfPages l c.bump.new.counters) same_geometry u.pages;
+      cached = λ going. subst (λ (p : ℕ). Contains (cached_pages c.count.new.self) p) c.page_of-page.ensures.page u.cached;
+      pages = u.inside old.engine.geometry e.pages;
       accepted = λ at under sealed made_count quiet is.
           not_node old.engine.geometry c.page_of-page.result at
           (e.found (Forgery at under sealed made_count) quiet (sym (ap (λ e. e.evidence) s.made ∙ bumped_evidence) ∙ is));
       once = λ quiet short. (
-        omega (arith, e.once, same_accesses, bumped_accesses, same_geometry, last_accesses),
-        λ other. ap (λ (f : Place → ℕ). f (line_place other)) one.reads ∙ ap (λ (t : BusHistory). t.reads (line_place other)) u.idle.0
-            ∙ ap (λ (t : BusHistory). t.reads (line_place other)) same_bus ∙ e.step.lines.reads other,
+        omega (arith, e.once, same_accesses, same_geometry, last_accesses),
+        λ other. ap (λ (f : Place → ℕ). f (line_place other)) one.reads ∙ ap (λ (t : BusHistory). t.reads (line_place other)) same_bus ∙ e.step.lines.reads other,
       );
-      few = omega (arith, e.once, same_accesses, bumped_accesses, same_geometry, last_accesses);
-      hit = λ cached quiet short. let same = still cached in omega (arith, same, same_accesses, bumped_accesses, last_accesses);
-      hit_overflow = λ cached. let same = still cached in omega (arith, same, same_accesses, bumped_accesses, last_accesses);
+      few = omega (arith, e.once, same_accesses, same_geometry, last_accesses);
+      hit = λ cached quiet short. let same = still cached in omega (arith, same, same_accesses, last_accesses);
+      hit_overflow = λ cached. let same = still cached in omega (arith, same, same_accesses, last_accesses);
     }
 
 pub reencrypt_page-requires : goal.reencrypt_page-requires
@@ -481,33 +471,32 @@ reencrypt_page-requires g c =
     let same_geometry : c.reserve.new.self.engine.geometry ≡ old.engine.geometry =
     ap (λ (o : OutsideView g.row.B.Denot g.row.T.Denot). o.engine.geometry) c.in_ok-reserve.ensures.taken ∙ e.step.step.geometry in
     let same_accesses = ap (λ (t : BusHistory). t.accesses) same_bus in
-    let u = c.in_ok-counter.ensures in
-    let bumped_accesses = ap (λ (t : BusHistory). t.accesses) u.idle.0 in
+    let u = counted_up_by g.B.Bus.history (Reaches g.B.Bus.moved) g.T.Tagger.data_tag_of g.T.Tagger.node_tag_of c.reserve.new.self c.get.new.counters c.count.new.self c.page_of-page.result c.place_of-place.result c.args.limit c.count.result c.count.ensures.counted e.copied c.count.ensures.copies in
     let up = counted_up h m d n old counters c.requires.current c.args.limit c.args.line c.page_of-page.result c.place_of-place.result c.get.new.self c.get.new.counters
-    c.in_ok-block.block c.get-2.result c.of.result had ((reaches_none g.B.Bus.moved g.met.B.Bus.unmoved) c.get.new.self.bus) (reaches_on g.B.Bus.moved g.met.B.Bus.moved_on) c.reserve.new.self c.bump.new.self c.bump.new.counters
-    c.in_ok-counter.field-0 c.in_ok-reserve.ensures.taken u.moved u.idle u.pads u.geometry u.few_copies u.copies u.fits u.outcome u.block u.others in
+    c.in_ok-block.block c.get-2.result c.of.result had ((reaches_none g.B.Bus.moved g.met.B.Bus.unmoved) c.get.new.self.bus) (reaches_on g.B.Bus.moved g.met.B.Bus.moved_on) c.reserve.new.self c.reserve.new.self c.count.new.self
+    c.count.result c.in_ok-reserve.ensures.taken ((reaches_none g.B.Bus.moved g.met.B.Bus.unmoved) c.reserve.new.self.bus) (refl, refl) refl u.geometry u.few u.came u.fits (λ fit quiet. u.outcome_is) (λ fit quiet. u.now) (λ fit quiet. u.others) in
     let rooms = mid_rooms h m d n old counters c.requires.current c.args.limit c.args.line c.page_of-page.result c.place_of-place.result c.get.new.self c.get.new.counters
-    c.in_ok-block.block c.get-2.result c.of.result had ((reaches_none g.B.Bus.moved g.met.B.Bus.unmoved) c.get.new.self.bus) (reaches_on g.B.Bus.moved g.met.B.Bus.moved_on) c.reserve.new.self c.bump.new.self c.bump.new.counters
-    c.in_ok-counter.field-0 up in
+    c.in_ok-block.block c.get-2.result c.of.result had ((reaches_none g.B.Bus.moved g.met.B.Bus.unmoved) c.get.new.self.bus) (reaches_on g.B.Bus.moved g.met.B.Bus.moved_on) c.reserve.new.self c.reserve.new.self c.count.new.self
+    c.count.result up in
     record {
       inside = mid_inside h m d n old counters c.requires.current c.args.limit c.args.line c.page_of-page.result c.place_of-place.result c.get.new.self c.get.new.counters
-          c.in_ok-block.block c.get-2.result c.of.result had ((reaches_none g.B.Bus.moved g.met.B.Bus.unmoved) c.get.new.self.bus) (reaches_on g.B.Bus.moved g.met.B.Bus.moved_on) c.reserve.new.self c.bump.new.self c.bump.new.counters
-          c.in_ok-counter.field-0 up;
+          c.in_ok-block.block c.get-2.result c.of.result had ((reaches_none g.B.Bus.moved g.met.B.Bus.unmoved) c.get.new.self.bus) (reaches_on g.B.Bus.moved g.met.B.Bus.moved_on) c.reserve.new.self c.reserve.new.self c.count.new.self
+          c.count.result up;
       consistent = mid_kept h m d n old counters c.requires.current c.args.limit c.args.line c.page_of-page.result c.place_of-place.result c.get.new.self c.get.new.counters
-          c.in_ok-block.block c.get-2.result c.of.result had ((reaches_none g.B.Bus.moved g.met.B.Bus.unmoved) c.get.new.self.bus) (reaches_on g.B.Bus.moved g.met.B.Bus.moved_on) c.reserve.new.self c.bump.new.self c.bump.new.counters
-          c.in_ok-counter.field-0 up;
+          c.in_ok-block.block c.get-2.result c.of.result had ((reaches_none g.B.Bus.moved g.met.B.Bus.unmoved) c.get.new.self.bus) (reaches_on g.B.Bus.moved g.met.B.Bus.moved_on) c.reserve.new.self c.reserve.new.self c.count.new.self
+          c.count.result up;
       holds_last = mid_last h m d n old counters c.requires.current c.args.limit c.args.line c.page_of-page.result c.place_of-place.result c.get.new.self c.get.new.counters
-          c.in_ok-block.block c.get-2.result c.of.result had ((reaches_none g.B.Bus.moved g.met.B.Bus.unmoved) c.get.new.self.bus) (reaches_on g.B.Bus.moved g.met.B.Bus.moved_on) c.reserve.new.self c.bump.new.self c.bump.new.counters
-          c.in_ok-counter.field-0 up;
+          c.in_ok-block.block c.get-2.result c.of.result had ((reaches_none g.B.Bus.moved g.met.B.Bus.unmoved) c.get.new.self.bus) (reaches_on g.B.Bus.moved g.met.B.Bus.moved_on) c.reserve.new.self c.reserve.new.self c.count.new.self
+          c.count.result up;
       risen = mid_rose h m d n old counters c.requires.current c.args.limit c.args.line c.page_of-page.result c.place_of-place.result c.get.new.self c.get.new.counters
-          c.in_ok-block.block c.get-2.result c.of.result had ((reaches_none g.B.Bus.moved g.met.B.Bus.unmoved) c.get.new.self.bus) (reaches_on g.B.Bus.moved g.met.B.Bus.moved_on) c.reserve.new.self c.bump.new.self c.bump.new.counters
-          c.in_ok-counter.field-0 up c.requires.risen;
+          c.in_ok-block.block c.get-2.result c.of.result had ((reaches_none g.B.Bus.moved g.met.B.Bus.unmoved) c.get.new.self.bus) (reaches_on g.B.Bus.moved g.met.B.Bus.moved_on) c.reserve.new.self c.reserve.new.self c.count.new.self
+          c.count.result up c.requires.risen;
       counters = mid_counters h m d n old counters c.requires.current c.args.limit c.args.line c.page_of-page.result c.place_of-place.result c.get.new.self c.get.new.counters
-          c.in_ok-block.block c.get-2.result c.of.result had ((reaches_none g.B.Bus.moved g.met.B.Bus.unmoved) c.get.new.self.bus) (reaches_on g.B.Bus.moved g.met.B.Bus.moved_on) c.reserve.new.self c.bump.new.self c.bump.new.counters
-          c.in_ok-counter.field-0 up c.requires.started;
+          c.in_ok-block.block c.get-2.result c.of.result had ((reaches_none g.B.Bus.moved g.met.B.Bus.unmoved) c.get.new.self.bus) (reaches_on g.B.Bus.moved g.met.B.Bus.moved_on) c.reserve.new.self c.reserve.new.self c.count.new.self
+          c.count.result up c.requires.started;
       later = mid_later h m d n old counters c.requires.current c.args.limit c.args.line c.page_of-page.result c.place_of-place.result c.get.new.self c.get.new.counters
-          c.in_ok-block.block c.get-2.result c.of.result had ((reaches_none g.B.Bus.moved g.met.B.Bus.unmoved) c.get.new.self.bus) (reaches_on g.B.Bus.moved g.met.B.Bus.moved_on) c.reserve.new.self c.bump.new.self c.bump.new.counters
-          c.in_ok-counter.field-0 up c.in-Page.raised c.in-Page.is c.of.ensures.overflow;
+          c.in_ok-block.block c.get-2.result c.of.result had ((reaches_none g.B.Bus.moved g.met.B.Bus.unmoved) c.get.new.self.bus) (reaches_on g.B.Bus.moved g.met.B.Bus.moved_on) c.reserve.new.self c.reserve.new.self c.count.new.self
+          c.count.result up c.in-Page.raised c.in-Page.is c.of.ensures.overflow;
       room = rooms.1;
       pads_room = rooms.0;
     }
@@ -550,39 +539,36 @@ returns-in-Page g c =
     let same_geometry : c.reserve.new.self.engine.geometry ≡ old.engine.geometry =
     ap (λ (o : OutsideView g.row.B.Denot g.row.T.Denot). o.engine.geometry) c.in_ok-reserve.ensures.taken ∙ e.step.step.geometry in
     let same_accesses = ap (λ (t : BusHistory). t.accesses) same_bus in
-    let u = c.in_ok-counter.ensures in
-    let bumped_accesses = ap (λ (t : BusHistory). t.accesses) u.idle.0 in
-    let bumped_evidence : c.bump.new.self.engine.evidence ≡ c.get.new.self.engine.evidence = ap (λ e. e.evidence) u.idle.1
-    ∙ ap (λ (o : OutsideView g.row.B.Denot g.row.T.Denot). o.engine.evidence) c.in_ok-reserve.ensures.taken in
-    let bumped_used = ap (λ (p : PadEngineView). length p.used) u.pads
-    ∙ ap (λ (o : OutsideView g.row.B.Denot g.row.T.Denot). length o.pads.used) c.in_ok-reserve.ensures.taken ∙ ap length e.step.used in
+    let u = counted_up_by g.B.Bus.history (Reaches g.B.Bus.moved) g.T.Tagger.data_tag_of g.T.Tagger.node_tag_of c.reserve.new.self c.get.new.counters c.count.new.self c.page_of-page.result c.place_of-place.result c.args.limit c.count.result c.count.ensures.counted e.copied c.count.ensures.copies in
+    let bumped_evidence : c.reserve.new.self.engine.evidence ≡ c.get.new.self.engine.evidence = ap (λ (o : OutsideView g.row.B.Denot g.row.T.Denot). o.engine.evidence) c.in_ok-reserve.ensures.taken in
+    let bumped_used = ap (λ (o : OutsideView g.row.B.Denot g.row.T.Denot). length o.pads.used) c.in_ok-reserve.ensures.taken ∙ ap length e.step.used in
     let write : LineWrite = record { line = c.args.line; bytes = c.args.bytes.now; counter = record { page = c.in-Page.raised; line = 0 } } in
     let up = counted_up h m d n old counters c.requires.current c.args.limit c.args.line c.page_of-page.result c.place_of-place.result c.get.new.self c.get.new.counters
-    c.in_ok-block.block c.get-2.result c.of.result had ((reaches_none g.B.Bus.moved g.met.B.Bus.unmoved) c.get.new.self.bus) (reaches_on g.B.Bus.moved g.met.B.Bus.moved_on) c.reserve.new.self c.bump.new.self c.bump.new.counters
-    c.in_ok-counter.field-0 c.in_ok-reserve.ensures.taken u.moved u.idle u.pads u.geometry u.few_copies u.copies u.fits u.outcome u.block u.others in
+    c.in_ok-block.block c.get-2.result c.of.result had ((reaches_none g.B.Bus.moved g.met.B.Bus.unmoved) c.get.new.self.bus) (reaches_on g.B.Bus.moved g.met.B.Bus.moved_on) c.reserve.new.self c.reserve.new.self c.count.new.self
+    c.count.result c.in_ok-reserve.ensures.taken ((reaches_none g.B.Bus.moved g.met.B.Bus.unmoved) c.reserve.new.self.bus) (refl, refl) refl u.geometry u.few u.came u.fits (λ fit quiet. u.outcome_is) (λ fit quiet. u.now) (λ fit quiet. u.others) in
     let p = c.reencrypt_page.ensures in
     record {
       written = page_written h m d n old counters c.requires.current c.args.limit c.args.line c.page_of-page.result c.place_of-place.result c.get.new.self c.get.new.counters
-          c.in_ok-block.block c.get-2.result c.of.result had ((reaches_none g.B.Bus.moved g.met.B.Bus.unmoved) c.get.new.self.bus) (reaches_on g.B.Bus.moved g.met.B.Bus.moved_on) c.reserve.new.self c.bump.new.self c.bump.new.counters
-          c.in_ok-counter.field-0 up c.requires.started (e.read c.requires.fits) c.args.bytes.now c.in-Page.raised c.in-Page.is c.of.ensures.overflow
+          c.in_ok-block.block c.get-2.result c.of.result had ((reaches_none g.B.Bus.moved g.met.B.Bus.unmoved) c.get.new.self.bus) (reaches_on g.B.Bus.moved g.met.B.Bus.moved_on) c.reserve.new.self c.reserve.new.self c.count.new.self
+          c.count.result up c.requires.started (e.read c.requires.fits) c.args.bytes.now c.in-Page.raised c.in-Page.is c.of.ensures.overflow
           c.reencrypt_page.new.self (result_err c.reencrypt_page.result) p.sealed;
-      cached = λ going. subst (λ (p : ℕ). Contains (cached_pages c.bump.new.counters) p) c.page_of-page.ensures.page u.cached;
-      pages = subst (λ (l : GeometryView). AreOfPages l c.bump.new.counters) same_geometry u.pages;
+      cached = λ going. subst (λ (p : ℕ). Contains (cached_pages c.count.new.self) p) c.page_of-page.ensures.page u.cached;
+      pages = u.inside old.engine.geometry e.pages;
       accepted = λ at under sealed made_count quiet is.
-          let still = before_line old.engine.geometry c.page_of-page.result at under sealed made_count c.bump.new.self.engine.evidence c.reencrypt_page.new.self.engine.evidence
+          let still = before_line old.engine.geometry c.page_of-page.result at under sealed made_count c.reserve.new.self.engine.evidence c.reencrypt_page.new.self.engine.evidence
           (λ evidence there. e.found evidence quiet (sym bumped_evidence ∙ there)) p.sealed.sealed.step.evidence is in
           let accepted = p.accepted at under sealed made_count still is in
-          let as_many = made_as_used (terms_of h m d n c.bump.new.self) write c.bump.new.self (take p.sealed.count (page_lines (page_of c.args.line)))
+          let as_many = made_as_used (terms_of h m d n c.reserve.new.self) write c.reserve.new.self (take p.sealed.count (page_lines (page_of c.args.line)))
           c.reencrypt_page.new.self (result_err c.reencrypt_page.result) p.sealed.sealed in
           record { beside = accepted.0; since = omega (arith, accepted.1, as_many, bumped_used) };
       once = λ quiet short. absurd (short (page_overflows h m d n old counters c.requires.current c.args.limit c.args.line c.page_of-page.result c.place_of-place.result c.get.new.self c.get.new.counters
-          c.in_ok-block.block c.get-2.result c.of.result had ((reaches_none g.B.Bus.moved g.met.B.Bus.unmoved) c.get.new.self.bus) (reaches_on g.B.Bus.moved g.met.B.Bus.moved_on) c.reserve.new.self c.bump.new.self c.bump.new.counters
-          c.in_ok-counter.field-0 up c.requires.started (e.read c.requires.fits) c.args.bytes.now c.in-Page.raised c.in-Page.is c.of.ensures.overflow
+          c.in_ok-block.block c.get-2.result c.of.result had ((reaches_none g.B.Bus.moved g.met.B.Bus.unmoved) c.get.new.self.bus) (reaches_on g.B.Bus.moved g.met.B.Bus.moved_on) c.reserve.new.self c.reserve.new.self c.count.new.self
+          c.count.result up c.requires.started (e.read c.requires.fits) c.args.bytes.now c.in-Page.raised c.in-Page.is c.of.ensures.overflow
           c.reencrypt_page.new.self (result_err c.reencrypt_page.result) p.sealed quiet));
-      few = omega (arith, e.once, same_accesses, bumped_accesses, same_geometry, p.once);
+      few = omega (arith, e.once, same_accesses, same_geometry, p.once);
       hit = λ cached quiet short. absurd (short (page_overflows h m d n old counters c.requires.current c.args.limit c.args.line c.page_of-page.result c.place_of-place.result c.get.new.self c.get.new.counters
-          c.in_ok-block.block c.get-2.result c.of.result had ((reaches_none g.B.Bus.moved g.met.B.Bus.unmoved) c.get.new.self.bus) (reaches_on g.B.Bus.moved g.met.B.Bus.moved_on) c.reserve.new.self c.bump.new.self c.bump.new.counters
-          c.in_ok-counter.field-0 up c.requires.started (e.read c.requires.fits) c.args.bytes.now c.in-Page.raised c.in-Page.is c.of.ensures.overflow
+          c.in_ok-block.block c.get-2.result c.of.result had ((reaches_none g.B.Bus.moved g.met.B.Bus.unmoved) c.get.new.self.bus) (reaches_on g.B.Bus.moved g.met.B.Bus.moved_on) c.reserve.new.self c.reserve.new.self c.count.new.self
+          c.count.result up c.requires.started (e.read c.requires.fits) c.args.bytes.now c.in-Page.raised c.in-Page.is c.of.ensures.overflow
           c.reencrypt_page.new.self (result_err c.reencrypt_page.result) p.sealed quiet));
-      hit_overflow = λ cached. let same = still cached in omega (arith, same, same_accesses, bumped_accesses, p.once);
+      hit_overflow = λ cached. let same = still cached in omega (arith, same, same_accesses, p.once);
     }

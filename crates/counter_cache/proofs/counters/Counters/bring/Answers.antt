@@ -1,4 +1,4 @@
-use Rattle.std.proofs.Common.{◌≡◌, ◌≢◌, inl, ◌+◌, ◌<◌, ◌≤◌, ℕ, List, Option, Some, None, Ok, Err, false, refl, ap, sym, ◌∙◌, subst, arith, rules}
+use Rattle.std.proofs.Common.{◌≡◌, ◌≢◌, inl, inr, ◌+◌, ◌<◌, ◌≤◌, ℕ, List, Option, Some, None, Ok, Err, false, IsSome, refl, ap, sym, ◌∙◌, subst, arith, rules}
 use Rattle.std.specs.List.{Contains}
 use Rattle.std.specs.Option.{option_map}
 use Rattle.std.specs.Result.{result_err}
@@ -12,22 +12,26 @@ use Rattle.sec_base.specs.declared.stop.MemStop.{MemStop}
 use Rattle.sec_base.specs.declared.stop.MemStop.TheVariants.{Tampered, Spent}
 use Rattle.sec_base.proofs.Results.{stop_is, on_err, was_none}
 use Rattle.cache_set.specs.declared.way.Way.{Way}
-use Rattle.cache_set.specs.CacheSet.{touched, with_latest, without}
-use Rattle.cache_set.specs.Cache.{set_at, way_at}
+use Rattle.cache_set.specs.Bringing.{with_new, with_room}
+use Rattle.cache_set.specs.CacheSet.{touched}
+use Rattle.cache_set.specs.Cache.{set_at, way_at, with_set}
+use Rattle.cache_set.proofs.Bringing.{brought_missed}
 use Rattle.cache_set.proofs.Listed.{listed_at}
 use Rattle.bus_model.specs.Access.{reaches_on}
-use Rattle.tag_engine.specs.TagEngine.{tags_of}
+use Rattle.tag_engine.specs.TagEngine.{TagEngineView, tags_of}
+use Rattle.bonsai_tree.specs.Node.{CachedNode}
 use Rattle.bonsai_tree.specs.NodeCache.{copy_of}
 use Rattle.bonsai_tree.specs.Tree.{HoldsTree, IsFetchPlace, IsKept, PathWasRead, TreeView, path_accesses}
 use Rattle.bonsai_tree.proofs.Climbs.{above_none, unmade_before}
 use Rattle.bonsai_tree.proofs.Nodes.{same_tags}
 use Rattle.bonsai_tree.proofs.PathCalls.{not_from_one}
-use Rattle.counter_cache.specs.Counters.{AreBlocks, CameFrom, CountersView, IsHad, LeavesClean, OnlyLeavingIsMade, cached_block, cached_pages, leaving_page, ways_beside}
+use Rattle.counter_cache.specs.Counters.{AreBlocks, CameFrom, CountersView, LeavesClean, OnlyLeavingIsMade, cached_block, cached_pages}
 use Rattle.counter_cache.specs.Having.{Has}
 use Rattle.counter_cache.proofs.BlockCopies.{blocks_put, blocks_same, cached_held, none_made_on}
 use Rattle.counter_cache.proofs.Hads.{had_tagged, quiet_before}
 use Rattle.counter_cache.proofs.Havings.{TreeCall, going, has_on, has_put, has_room, has_touched, has_tree, no_copy_below, over, path_on}
-use Rattle.counter_cache.proofs.Orders.{beside_put, beside_touched, set_kept}
+use Rattle.counter_cache.proofs.BlocksHad.{block_held, had_goes, had_stays}
+use Rattle.counter_cache.proofs.BlocksMade.{blocks_came}
 use Rattle.counter_cache.proofs.counters.Counters.bring.Goals as goal
 
 -- where it has a copy
@@ -42,11 +46,6 @@ returns-then-touch-clause-has g c =
 
 pub returns-then-touch-clause-read : goal.returns-then-touch-clause-read
 returns-then-touch-clause-read g c = λ holds quiet uncached.
-    absurd (uncached (subst (λ (v : CountersView). Contains (cached_pages v) c.args.page) c.self.view_is
-    (listed_at c.self.inside.blocks c.args.page (c.if-touch.ensures.held.0 refl))))
-
-pub returns-then-touch-clause-clean : goal.returns-then-touch-clause-clean
-returns-then-touch-clause-clean g c = λ uncached.
     absurd (uncached (subst (λ (v : CountersView). Contains (cached_pages v) c.args.page) c.self.view_is
     (listed_at c.self.inside.blocks c.args.page (c.if-touch.ensures.held.0 refl))))
 
@@ -210,26 +209,6 @@ returns-clause-has g c =
     (ap (option_map copy_of) empty) (ap (option_map copy_of) c.put.ensures.put)
     (λ other apart. ap (option_map copy_of) (c.put.ensures.same other apart))))
 
-pub returns-clause-had : goal.returns-clause-had
-returns-clause-had g c = λ bytes copied.
-    let same : (record { tree = c.self.inside.tree; blocks = c.touch.new.self }) ≡ c.args.self.now =
-    ap (λ (b : List (List Way)). record { tree = c.self.inside.tree; blocks = b }) (c.if-touch.ensures.unchanged refl) ∙ c.self.view_is in
-    let absent : cached_block c.args.self.now c.args.page ≡ None =
-    ap (λ (v : CountersView). cached_block v c.args.page) (sym same) ∙ ap (option_map copy_of) (c.if-touch.ensures.absent refl) in
-    let some : Some c.in_ok-block.block ≡ Some bytes = sym (ap (option_map (λ (way : Way). way.copy)) c.put.ensures.put) ∙ copied in
-    let block_is : c.in_ok-block.block ≡ bytes = cc in
-    subst (λ (b : List ℕ). IsHad (tags_of g.T.Tagger.data_tag_of g.T.Tagger.node_tag_of c.args.tags.now) c.args.self.now (record { tree = c.fetch.new.self; blocks = c.put.new.self }) c.fetch.new.tags.made c.args.page c.args.tags.now.evidence c.fetch.new.tags.evidence b) block_is
-    (had_tagged (tags_of g.T.Tagger.data_tag_of g.T.Tagger.node_tag_of c.args.tags.now) c.args.self.now (record { tree = c.fetch.new.self; blocks = c.put.new.self }) c.fetch.new.tags.made c.args.page c.args.tags.now.evidence c.fetch.new.tags.evidence c.in_ok-block.block absent
-    (subst (λ (t : Message → List ℕ). IsKept t c.fetch.new.self c.fetch.new.tags.made 0 c.args.page c.in_ok-block.block)
-    (same_tags g.T.Tagger.data_tag_of g.T.Tagger.node_tag_of (g.B.Bus.history c.args.bus.now) (g.B.Bus.history c.make_room.new.bus) c.args.tags.now c.make_room.new.tags c.in_ok-make_room.ensures.has.moves)
-    c.in_ok-block.ensures.checked)
-    (λ quiet made_at shown tag is.
-    let mid : c.make_room.new.tags.evidence ≡ None =
-    quiet_before c.self.inside.tree.geometry c.args.page c.make_room.new.tags.evidence c.fetch.new.tags.evidence (c.in_ok-make_room.ensures.has.found quiet)
-    c.fetch.ensures.moves.evidence made_at shown tag is in
-    let both : Ok c.in_ok-block.block ≡ Ok shown = sym c.in_ok-block.was ∙ c.fetch.ensures.accepted made_at shown tag mid is in
-    let same_block : c.in_ok-block.block ≡ shown = cc in same_block))
-
 pub returns-clause-hit : goal.returns-clause-hit
 returns-clause-hit g c = λ cached.
     let same : (record { tree = c.self.inside.tree; blocks = c.touch.new.self }) ≡ c.args.self.now =
@@ -258,31 +237,6 @@ pub returns-clause-moved : goal.returns-clause-moved
 returns-clause-moved g c =
     (reaches_on g.B.Bus.moved g.met.B.Bus.moved_on) c.args.bus.now c.make_room.new.bus c.fetch.new.bus c.make_room.ensures.moved c.fetch.ensures.moved
 
-pub returns-clause-goes : goal.returns-clause-goes
-returns-clause-goes g c = λ other goes.
-    let same : (record { tree = c.self.inside.tree; blocks = c.touch.new.self }) ≡ c.args.self.now =
-    ap (λ (b : List (List Way)). record { tree = c.self.inside.tree; blocks = b }) (c.if-touch.ensures.unchanged refl) ∙ c.self.view_is in
-    let apart : other ≢ c.args.page = λ here.
-    subst (λ (v : CountersView). leaving_page v c.args.page ≢ Some c.args.page) same c.make_room.ensures.apart (goes ∙ ap Some here) in
-    ap (option_map copy_of) (c.put.ensures.same other apart) ∙ ap (λ (v : CountersView). cached_block v other) c.self-2.view_is
-    ∙ subst (λ (v : CountersView). leaving_page v c.args.page ≡ Some other → cached_block c.make_room.new.self other ≡ None) same (c.in_ok-make_room.ensures.goes other) goes
-
-pub returns-clause-stays : goal.returns-clause-stays
-returns-clause-stays g c = λ other apart stays.
-    let same : (record { tree = c.self.inside.tree; blocks = c.touch.new.self }) ≡ c.args.self.now =
-    ap (λ (b : List (List Way)). record { tree = c.self.inside.tree; blocks = b }) (c.if-touch.ensures.unchanged refl) ∙ c.self.view_is in
-    ap (option_map copy_of) (c.put.ensures.same other apart) ∙ ap (λ (v : CountersView). cached_block v other) c.self-2.view_is
-    ∙ subst (λ (v : CountersView). leaving_page v c.args.page ≢ Some other → cached_block c.make_room.new.self other ≡ cached_block v other) same
-    (c.make_room.ensures.stays other) stays
-
-pub returns-in_err-block-clause-stays : goal.returns-in_err-block-clause-stays
-returns-in_err-block-clause-stays g c = λ other apart stays.
-    let same : (record { tree = c.self.inside.tree; blocks = c.touch.new.self }) ≡ c.args.self.now =
-    ap (λ (b : List (List Way)). record { tree = c.self.inside.tree; blocks = b }) (c.if-touch.ensures.unchanged refl) ∙ c.self.view_is in
-    ap (λ (v : CountersView). cached_block v other) c.self-2.view_is
-    ∙ subst (λ (v : CountersView). leaving_page v c.args.page ≢ Some other → cached_block c.make_room.new.self other ≡ cached_block v other) same
-    (c.make_room.ensures.stays other) stays
-
 pub returns-clause-alone : goal.returns-clause-alone
 returns-clause-alone g c = λ other apart. c.fetch.ensures.alone other apart ∙ c.make_room.ensures.no_block_read other
 
@@ -297,29 +251,6 @@ returns-clause-once_clean g c = λ clean.
     ap (λ (v : CountersView). v.tree.geometry) c.self-2.view_is ∙ c.in_ok-make_room.ensures.has.geometry ∙ ap (λ (v : CountersView). v.tree.geometry) c.self.view_is in
     subst (λ (k : GeometryView). (g.B.Bus.history c.fetch.new.bus).accesses ≤ (g.B.Bus.history c.args.bus.now).accesses + path_accesses k.levels) geometry
     (subst (λ (n : ℕ). (g.B.Bus.history c.fetch.new.bus).accesses ≤ n + path_accesses c.self-2.inside.tree.geometry.levels) idle c.fetch.ensures.once)
-
--- no copy is marked
-pub returns-then-touch-clause-unmarked : goal.returns-then-touch-clause-unmarked
-returns-then-touch-clause-unmarked g c = λ copy found marked.
-    sym (ap (option_map copy_of) (c.if-touch.ensures.same c.args.page ∙ ap (λ (v : CountersView). way_at v.blocks c.args.page) c.self.view_is)) ∙ found
-
-pub returns-in_err-make_room-clause-unmarked : goal.returns-in_err-make_room-clause-unmarked
-returns-in_err-make_room-clause-unmarked g c = λ copy found marked.
-    let none : None ≡ Some copy = sym (ap (option_map copy_of) c.make_room.ensures.absent) ∙ found in
-    absurd (cc)
-
-pub returns-in_err-block-clause-unmarked : goal.returns-in_err-block-clause-unmarked
-returns-in_err-block-clause-unmarked g c = λ copy found marked.
-    let empty : cached_block (record { tree = c.fetch.new.self; blocks = c.self-2.inside.blocks }) c.args.page ≡ None =
-    ap (λ (v : CountersView). cached_block v c.args.page) c.self-2.view_is ∙ ap (option_map copy_of) c.make_room.ensures.absent in
-    let none : None ≡ Some copy = sym empty ∙ found in
-    absurd (cc)
-
-pub returns-clause-unmarked : goal.returns-clause-unmarked
-returns-clause-unmarked g c = λ copy found marked.
-    let is : Some (record { block = c.in_ok-block.block; changed = false }) ≡ Some copy = sym (ap (option_map copy_of) c.put.ensures.put) ∙ found in
-    let unchanged : copy.changed ≡ false = cc in
-    absurd (cc)
 
 -- which blocks were made
 pub returns-in_err-make_room-clause-written : goal.returns-in_err-make_room-clause-written
@@ -346,62 +277,87 @@ pub returns-in_err-block-clause-moved : goal.returns-in_err-block-clause-moved
 returns-in_err-block-clause-moved g c =
     (reaches_on g.B.Bus.moved g.met.B.Bus.moved_on) c.args.bus.now c.make_room.new.bus c.fetch.new.bus c.make_room.ensures.moved c.fetch.ensures.moved
 
--- a refused call leaves the page no copy
-pub returns-in_err-make_room-clause-uncached : goal.returns-in_err-make_room-clause-uncached
-returns-in_err-make_room-clause-uncached g c = on_err c.from_residual.result (ap (option_map copy_of) c.make_room.ensures.absent)
-
-pub returns-in_err-block-clause-uncached : goal.returns-in_err-block-clause-uncached
-returns-in_err-block-clause-uncached g c =
-    on_err c.from_residual-in_err-block.result
-    (ap (λ (v : CountersView). cached_block v c.args.page) c.self-2.view_is ∙ ap (option_map copy_of) c.make_room.ensures.absent)
-
--- the order in the page's set, and the other sets
-pub returns-then-touch-clause-other_ways : goal.returns-then-touch-clause-other_ways
-returns-then-touch-clause-other_ways g c =
-    subst (λ (v : CountersView). without c.args.page (set_at c.touch.new.self c.args.page) ≡ ways_beside v c.args.page) c.self.view_is
-    (beside_touched (record { tree = c.self.inside.tree; blocks = c.self.inside.blocks }) c.args.page c.touch.new.self c.self.invariant.blocks.cache
-    (c.if-touch.ensures.held.0 refl) c.if-touch.ensures.after)
-
-pub returns-clause-other_ways : goal.returns-clause-other_ways
-returns-clause-other_ways g c =
-    let same : (record { tree = c.self.inside.tree; blocks = c.touch.new.self }) ≡ c.args.self.now =
-    ap (λ (b : List (List Way)). record { tree = c.self.inside.tree; blocks = b }) (c.if-touch.ensures.unchanged refl) ∙ c.self.view_is in
-    let way : Way = record { place = c.args.page; changed = false; copy = c.in_ok-block.block } in
-    beside_put c.self-2.inside.blocks c.put.new.self way c.self-2.invariant.blocks.cache c.put.ensures.after
-    ∙ ap (λ (v : CountersView). without c.args.page (set_at v.blocks c.args.page)) c.self-2.view_is
-    ∙ subst (λ (v : CountersView). without c.args.page (set_at c.make_room.new.self.blocks c.args.page) ≡ ways_beside v c.args.page) same
-    (ap (λ (ways : List Way). without c.args.page ways) c.in_ok-make_room.ensures.left)
-
-pub returns-then-touch-clause-other_sets : goal.returns-then-touch-clause-other_sets
-returns-then-touch-clause-other_sets g c = λ other apart.
-    set_kept c.self.inside.blocks c.touch.new.self c.args.page (touched c.args.page (set_at c.self.inside.blocks c.args.page)) c.self.invariant.blocks.cache
-    c.if-touch.ensures.after other apart
-    ∙ ap (λ (v : CountersView). set_at v.blocks other) c.self.view_is
-
-pub returns-in_err-make_room-clause-other_sets : goal.returns-in_err-make_room-clause-other_sets
-returns-in_err-make_room-clause-other_sets g c = λ other apart.
-    let same : (record { tree = c.self.inside.tree; blocks = c.touch.new.self }) ≡ c.args.self.now =
-    ap (λ (b : List (List Way)). record { tree = c.self.inside.tree; blocks = b }) (c.if-touch.ensures.unchanged refl) ∙ c.self.view_is in
-    c.make_room.ensures.other_sets other apart ∙ ap (λ (v : CountersView). set_at v.blocks other) same
-
-pub returns-in_err-block-clause-other_sets : goal.returns-in_err-block-clause-other_sets
-returns-in_err-block-clause-other_sets g c = λ other apart.
-    let same : (record { tree = c.self.inside.tree; blocks = c.touch.new.self }) ≡ c.args.self.now =
-    ap (λ (b : List (List Way)). record { tree = c.self.inside.tree; blocks = b }) (c.if-touch.ensures.unchanged refl) ∙ c.self.view_is in
-    ap (λ (v : CountersView). set_at v.blocks other) c.self-2.view_is
-    ∙ c.make_room.ensures.other_sets other apart ∙ ap (λ (v : CountersView). set_at v.blocks other) same
-
-pub returns-clause-other_sets : goal.returns-clause-other_sets
-returns-clause-other_sets g c = λ other apart.
-    let same : (record { tree = c.self.inside.tree; blocks = c.touch.new.self }) ≡ c.args.self.now =
-    ap (λ (b : List (List Way)). record { tree = c.self.inside.tree; blocks = b }) (c.if-touch.ensures.unchanged refl) ∙ c.self.view_is in
-    let way : Way = record { place = c.args.page; changed = false; copy = c.in_ok-block.block } in
-    set_kept c.self-2.inside.blocks c.put.new.self c.args.page (with_latest way (set_at c.self-2.inside.blocks c.args.page)) c.self-2.invariant.blocks.cache
-    c.put.ensures.after other apart
-    ∙ ap (λ (v : CountersView). set_at v.blocks other) c.self-2.view_is
-    ∙ c.make_room.ensures.other_sets other apart ∙ ap (λ (v : CountersView). set_at v.blocks other) same
-
 pub returns-then-touch-clause-parent : goal.returns-then-touch-clause-parent
 returns-then-touch-clause-parent g c = λ uncached.
     absurd (uncached (subst (λ (v : CountersView). Contains (cached_pages v) c.args.page) c.self.view_is
     (listed_at c.self.inside.blocks c.args.page (c.if-touch.ensures.held.0 refl))))
+
+-- the copies of blocks
+pub returns-then-touch-clause-block : goal.returns-then-touch-clause-block
+returns-then-touch-clause-block g c =
+    let there : IsSome (way_at c.args.self.now.blocks c.args.page) =
+    subst (λ (v : CountersView). IsSome (way_at v.blocks c.args.page)) c.self.view_is (c.if-touch.ensures.held.0 refl) in
+    block_held (tags_of g.T.Tagger.data_tag_of g.T.Tagger.node_tag_of c.args.tags.now) c.args.self.now (record { tree = c.self.inside.tree; blocks = c.touch.new.self })
+    c.args.tags.now.made c.args.page c.args.tags.now.evidence there
+    (c.if-touch.ensures.after ∙ ap (λ (v : CountersView). with_set v.blocks c.args.page (touched c.args.page (set_at v.blocks c.args.page))) c.self.view_is)
+    (c.if-touch.ensures.same c.args.page ∙ ap (λ (v : CountersView). way_at v.blocks c.args.page) c.self.view_is) (c.if-touch.ensures.latest refl)
+
+pub returns-in_err-make_room-clause-missed : goal.returns-in_err-make_room-clause-missed
+returns-in_err-make_room-clause-missed g c =
+    let blocks : c.touch.new.self ≡ c.args.self.now.blocks = c.if-touch.ensures.unchanged refl ∙ ap (λ (v : CountersView). v.blocks) c.self.view_is in
+    let absent : way_at c.args.self.now.blocks c.args.page ≡ None =
+    ap (λ (sets : List (List Way)). way_at sets c.args.page) (sym blocks) ∙ c.if-touch.ensures.absent refl in
+    on_err c.from_residual.result (record { absent = absent; left = inl (c.in_err-make_room.ensures.ways_kept ∙ blocks) })
+
+pub returns-in_err-block-clause-missed : goal.returns-in_err-block-clause-missed
+returns-in_err-block-clause-missed g c =
+    let blocks : c.touch.new.self ≡ c.args.self.now.blocks = c.if-touch.ensures.unchanged refl ∙ ap (λ (v : CountersView). v.blocks) c.self.view_is in
+    let absent : way_at c.args.self.now.blocks c.args.page ≡ None =
+    ap (λ (sets : List (List Way)). way_at sets c.args.page) (sym blocks) ∙ c.if-touch.ensures.absent refl in
+    on_err c.from_residual-in_err-block.result (record {
+      absent = absent;
+      left = inr (ap (λ (v : CountersView). v.blocks) c.self-2.view_is ∙ c.in_ok-make_room.ensures.ways
+          ∙ ap (λ (sets : List (List Way)). with_room sets c.args.page) blocks);
+    })
+
+pub returns-clause-block : goal.returns-clause-block
+returns-clause-block g c =
+    let blocks : c.touch.new.self ≡ c.args.self.now.blocks = c.if-touch.ensures.unchanged refl ∙ ap (λ (v : CountersView). v.blocks) c.self.view_is in
+    let absent : way_at c.args.self.now.blocks c.args.page ≡ None =
+    ap (λ (sets : List (List Way)). way_at sets c.args.page) (sym blocks) ∙ c.if-touch.ensures.absent refl in
+    record {
+      bytes = c.in_ok-block.block;
+      copied = ap (option_map (λ (way : Way). way.copy)) c.put.ensures.put;
+      latest = c.put.ensures.latest;
+      had =
+          had_tagged (tags_of g.T.Tagger.data_tag_of g.T.Tagger.node_tag_of c.args.tags.now) c.args.self.now (record { tree = c.fetch.new.self; blocks = c.put.new.self }) c.fetch.new.tags.made c.args.page c.args.tags.now.evidence c.fetch.new.tags.evidence c.in_ok-block.block (ap (option_map copy_of) absent)
+          (subst (λ (t : Message → List ℕ). IsKept t c.fetch.new.self c.fetch.new.tags.made 0 c.args.page c.in_ok-block.block)
+          (same_tags g.T.Tagger.data_tag_of g.T.Tagger.node_tag_of (g.B.Bus.history c.args.bus.now) (g.B.Bus.history c.make_room.new.bus) c.args.tags.now c.make_room.new.tags c.in_ok-make_room.ensures.has.moves)
+          c.in_ok-block.ensures.checked)
+          (λ quiet made_at shown tag is.
+          let mid : c.make_room.new.tags.evidence ≡ None =
+          quiet_before c.self.inside.tree.geometry c.args.page c.make_room.new.tags.evidence c.fetch.new.tags.evidence (c.in_ok-make_room.ensures.has.found quiet)
+          c.fetch.ensures.moves.evidence made_at shown tag is in
+          let both : Ok c.in_ok-block.block ≡ Ok shown = sym c.in_ok-block.was ∙ c.fetch.ensures.accepted made_at shown tag mid is in
+          let same_block : c.in_ok-block.block ≡ shown = cc in same_block);
+      brought_is =
+          c.put.ensures.after
+          ∙ ap (λ (sets : List (List Way)). with_new sets c.args.page c.in_ok-block.block)
+          (ap (λ (v : CountersView). v.blocks) c.self-2.view_is ∙ c.in_ok-make_room.ensures.ways ∙ ap (λ (sets : List (List Way)). with_room sets c.args.page) blocks)
+          ∙ brought_missed c.args.self.now.blocks c.args.page c.in_ok-block.block absent;
+    }
+
+pub returns-then-touch-clause-came : goal.returns-then-touch-clause-came
+returns-then-touch-clause-came g c = λ holds quiet page held.
+    let same : cached_block (record { tree = c.self.inside.tree; blocks = c.touch.new.self }) page ≡ cached_block c.args.self.now page =
+    ap (option_map copy_of) (c.if-touch.ensures.same page ∙ ap (λ (v : CountersView). way_at v.blocks page) c.self.view_is) in
+    inl (subst (λ (o : Option CachedNode). o ≢ None) same held, refl)
+
+pub returns-clause-came : goal.returns-clause-came
+returns-clause-came g c = λ holds quiet.
+    let are : AreBlocks c.args.self.now.tree.geometry c.args.self.now.blocks = subst (λ (v : CountersView). AreBlocks v.tree.geometry v.blocks) c.self.view_is c.self.invariant.blocks in
+    let after : CountersView = record { tree = c.fetch.new.self; blocks = c.put.new.self } in
+    let had = returns-clause-block g c in
+    let has = returns-clause-has g c in
+    blocks_came c.args.self.now after c.args.page c.args.tags.now.made c.fetch.new.tags.made has.moves.more
+    (g.B.Bus.history c.args.bus.now) (g.B.Bus.history c.fetch.new.bus) (returns-clause-written g c) has.moves.made
+    (λ cached. ap (λ (e : TagEngineView g.row.T.Denot). e.made) (returns-clause-hit g c cached).2)
+    (had_goes (tags_of g.T.Tagger.data_tag_of g.T.Tagger.node_tag_of c.args.tags.now) c.args.self.now after c.fetch.new.tags.made c.args.page c.args.tags.now.evidence c.fetch.new.tags.evidence are.cache had)
+    (had_stays (tags_of g.T.Tagger.data_tag_of g.T.Tagger.node_tag_of c.args.tags.now) c.args.self.now after c.fetch.new.tags.made c.args.page c.args.tags.now.evidence c.fetch.new.tags.evidence are.cache had)
+    (λ held. elim (has.copied holds quiet c.args.page held) [
+      | inl was ↦ inl was
+      | inr came ↦ inr came.1
+    ])
+
+pub returns-then-touch-clause-hit : goal.returns-then-touch-clause-hit
+returns-then-touch-clause-hit g c = λ cached. (refl, refl, refl, ap (λ (v : CountersView). v.tree) c.self.view_is)

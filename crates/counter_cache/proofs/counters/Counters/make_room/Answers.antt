@@ -2,17 +2,17 @@ use Rattle.std.proofs.Common.{◌≡◌, List, Option, Some, None, ap, sym, ◌�
 use Rattle.std.specs.Option.{option_map}
 use Rattle.std.specs.Result.{result_err}
 use Rattle.sec_base.specs.declared.stop.MemStop.{MemStop}
+use Rattle.sec_base.proofs.Results.{on_err}
 use Rattle.cache_set.specs.declared.way.Way.{Way}
-use Rattle.cache_set.specs.CacheSet.{without}
-use Rattle.cache_set.specs.Cache.{place_of, set_at, way_at}
+use Rattle.cache_set.specs.Bringing.{room_if}
+use Rattle.cache_set.specs.Cache.{place_of, victim_for, way_at}
 use Rattle.tag_engine.specs.TagEngine.{tags_of}
 use Rattle.bonsai_tree.specs.NodeCache.{copy_of}
 use Rattle.bonsai_tree.specs.Tree.{IsNodeFrom}
-use Rattle.counter_cache.specs.Counters.{AreBlocks, CountersView, leaving_page, set_of}
+use Rattle.counter_cache.specs.Counters.{AreBlocks, CountersView, leaving_page}
 use Rattle.counter_cache.specs.Having.{Has}
 use Rattle.counter_cache.proofs.BlockCopies.{apart_from, blocks_left, victim_made}
 use Rattle.counter_cache.proofs.Havings.{has_dropped, has_not, has_on}
-use Rattle.counter_cache.proofs.Orders.{left_without, set_kept}
 use Rattle.counter_cache.proofs.counters.Counters.make_room.Goals as goal
 
 pub returns-in_default-clause-has : goal.returns-in_default-clause-has
@@ -98,17 +98,20 @@ returns-clause-written g c =
     sym (ap (λ (v : CountersView). way_at v.blocks c.in-Some.victim.place) c.self.view_is) ∙ c.in-Some.ensures.way in
     victim_made c.args.self.now c.args.page c.in-Some.victim c.args.tags.now.made c.write_back.new.tags.made goes way c.write_back.ensures.written
 
-pub returns-clause-left : goal.returns-clause-left
-returns-clause-left g c =
-    let goes : leaving_page c.args.self.now c.args.page ≡ Some c.in-Some.victim.place =
-    ap (λ (v : CountersView). leaving_page v c.args.page) (sym c.self.view_is) ∙ ap (option_map place_of) (sym c.in-Some.ensures.victim) in
-    let blocks : c.self-2.inside.blocks ≡ c.args.self.now.blocks = ap (λ (v : CountersView). v.blocks) c.self-2.view_is ∙ c.write_back.ensures.blocks in
-    left_without c.args.self.now c.args.page c.in-Some.victim.place c.self-2.inside.blocks c.remove.new.self blocks c.self-2.invariant.blocks.cache goes
-    c.in-Some.ensures.beside c.remove.ensures.after
+-- the copies of blocks
+pub returns-in_default-clause-ways : goal.returns-in_default-clause-ways
+returns-in_default-clause-ways g c =
+    let is : c.victim.result ≡ None = search rules in
+    ap (λ (v : Option Way). room_if v c.args.self.now.blocks)
+    (sym is ∙ c.victim.ensures.victim ∙ ap (λ (v : CountersView). victim_for v.blocks c.args.page) c.self.view_is)
 
-pub returns-clause-other_sets : goal.returns-clause-other_sets
-returns-clause-other_sets g c = λ other apart.
+pub returns-in_err-write_back-clause-ways_kept : goal.returns-in_err-write_back-clause-ways_kept
+returns-in_err-write_back-clause-ways_kept g c = on_err c.from_residual.result c.in_err-write_back.ensures.blocks
+
+pub returns-clause-ways : goal.returns-clause-ways
+returns-clause-ways g c =
+    let goes : victim_for c.args.self.now.blocks c.args.page ≡ Some c.in-Some.victim =
+    ap (λ (v : CountersView). victim_for v.blocks c.args.page) (sym c.self.view_is) ∙ sym c.in-Some.ensures.victim in
     let blocks : c.self-2.inside.blocks ≡ c.args.self.now.blocks = ap (λ (v : CountersView). v.blocks) c.self-2.view_is ∙ c.write_back.ensures.blocks in
-    set_kept c.self-2.inside.blocks c.remove.new.self c.in-Some.victim.place (without c.in-Some.victim.place (set_at c.self-2.inside.blocks c.in-Some.victim.place))
-    c.self-2.invariant.blocks.cache c.remove.ensures.after other (λ (same : set_of other ≡ set_of c.in-Some.victim.place). apart (same ∙ c.in-Some.ensures.beside))
-    ∙ ap (λ (sets : List (List Way)). set_at sets other) blocks
+    c.remove.ensures.after ∙ ap (λ (sets : List (List Way)). room_if (Some c.in-Some.victim) sets) blocks
+    ∙ ap (λ (v : Option Way). room_if v c.args.self.now.blocks) (sym goes)
