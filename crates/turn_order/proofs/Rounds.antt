@@ -1,99 +1,97 @@
 -- Rounds of an order as it goes on.
-use Rattle.std.proofs.Common.{◌≡◌, ◌<◌, ◌≤◌, ◌+◌, ℕ, Bool, true, false, List, [], ◌∷◌, length, get_or, take, drop, refl, sym, ◌∙◌, ap, arith, append_assoc}
-use Rattle.std.specs.Prelude.{Some, None, find, slice_get, slice_index}
+use Rattle.std.proofs.Common.{◌≡◌, ◌<◌, ◌≤◌, ◌+◌, ℕ, Bool, true, false, List, [], ◌∷◌, length, map, get_or, take, drop, refl, sym, ◌∙◌, ap, arith, append_assoc}
+use Rattle.std.specs.Prelude.{Some, None, find, slice_get}
 use Rattle.std.specs.List.{position_or_len}
+use Rattle.std.specs.Option.{option_map}
 use Rattle.std.proofs.lemmas.Grind.{common_steps}
 use Rattle.std.proofs.lemmas.List.{append-nil, drop_more, take_more, drop_all, take_all}
-use Rattle.std.proofs.lemmas.Option.{slice_get-get_or, slice_get_past}
-use Rattle.std.proofs.lemmas.List.Elements.{All-append, All-drop, All-take}
+use Rattle.std.proofs.lemmas.Option.{slice_get-get_or, slice_get-map, slice_get_past}
 use Rattle.std.proofs.lemmas.List.Folds.{find_at}
 use Rattle.std.proofs.lemmas.List.Sums.{passes_at_first, fails_before_first}
-use Rattle.turn_order.specs.Side.{IsSide, goes_on}
-use Rattle.turn_order.specs.TurnOrder.{IsOrder, IsTurnOrder, first_round, round_from, side_left, next_side, round_after}
+use Rattle.turn_order.specs.declared.side.Side.{Side}
+use Rattle.turn_order.specs.declared.side.Side.TheVariants.{First, Second}
+use Rattle.turn_order.specs.Side.{side_of, goes_on}
+use Rattle.turn_order.specs.TurnOrder.{first_round, round_from, side_left, next_side, round_after}
 
-pub from_start : (order : List ℕ) → round_from 0 order ≡ order
+pub from_start : (round : List Side) → round_from 0 round ≡ round
 unfolding round_from
-from_start order = append-nil order
+from_start round = append-nil round
 
-pub from_end : (order : List ℕ) (place : ℕ) → length order ≤ place → round_from place order ≡ order
+pub from_end : (round : List Side) (place : ℕ) → length round ≤ place → round_from place round ≡ round
 unfolding round_from
-from_end order place past = rw (drop_all place order past, take_all place order past) refl
+from_end round place past = rw (drop_all place round past, take_all place round past) refl
 
-pub first_entry : (order : List ℕ) (place : ℕ) → place < length order → slice_index (round_from place order) 0 ≡ get_or order place 0
+-- the next entry of a round from one of its places on is the one at that place
+pub first_entry : (round : List Side) (place : ℕ) → place < length round → slice_get (round_from place round) 0 ≡ slice_get round place
 unfolding round_from
-first_entry order place inside = rw (drop_more order place 0 inside) refl
+first_entry round place inside =
+    rw (drop_more round place First inside, slice_get-get_or round place First inside) refl
 
 -- the entry that is passed comes again after all others
-pub one_on : (order : List ℕ) (place : ℕ) → place < length order → round_from 1 (round_from place order) ≡ round_from (place + 1) order
+pub one_on : (round : List Side) (place : ℕ) → place < length round → round_from 1 (round_from place round) ≡ round_from (place + 1) round
 unfolding round_from
-one_on order place inside =
-    rw (drop_more order place 0 inside, take_more order place 0 inside)
-    (append_assoc (drop (place + 1) order) (take place order) (get_or order place 0 ∷ []))
+one_on round place inside =
+    rw (drop_more round place First inside, take_more round place First inside)
+    (append_assoc (drop (place + 1) round) (take place round) (get_or round place First ∷ []))
 
-pub is_turn_order : (order : List ℕ) (place : ℕ) → 0 < length order → IsOrder order → IsTurnOrder (round_from place order)
-unfolding round_from
-is_turn_order order place some sides = record {
-  some = grind (arith, common_steps);
-  sides = All-append IsSide (drop place order) (take place order) (All-drop IsSide place order sides) (All-take IsSide place order sides);
-}
+-- the side that a byte of an order names, as the entry at its place
+pub entry_at : (order : List ℕ) (place : ℕ) → place < length order
+    → slice_get (map side_of order) place ≡ Some (side_of (get_or order place 0))
+entry_at order place inside =
+    slice_get-map side_of order place ∙ ap (option_map side_of) (slice_get-get_or order place 0 inside)
 
-pub is_taking_turns : (order : List ℕ) → length order ≡ 0 → 0 ∷ 1 ∷ [] ≡ first_round order
-is_taking_turns [] none = refl
-is_taking_turns (entry ∷ entries) none = absurd (omega arith)
-
-pub is_first_round : (order : List ℕ) → 0 < length order → first_round order ≡ order
-is_first_round [] some = absurd (omega arith)
-is_first_round (entry ∷ entries) some = refl
-
-same_length : (order : List ℕ) (place : ℕ) → place < length order → length order ≡ length (round_from place order)
+pub same_length : (order : List ℕ) (place : ℕ) → place < length order → length order ≡ length (round_from place (map side_of order))
 unfolding round_from
 same_length order place inside = grind (arith, common_steps)
 
--- what is known of an order that stands at one of its entries
-pub opened : (order round : List ℕ) (place : ℕ) → round_from place order ≡ round → (place < length order) × IsOrder order
-    → IsTurnOrder round × (length order ≡ length round)
-opened order round place seen always =
-    rw (sym seen) (is_turn_order order place (omega (arith, always.0)) always.1, same_length order place always.0)
+pub is_first_round : (order : List ℕ) → 0 < length order → first_round order ≡ map side_of order
+is_first_round [] some = absurd (omega arith)
+is_first_round (byte ∷ bytes) some = refl
 
--- the next entry, where so many were passed
-pub entry_there : (round now : List ℕ) (place side : ℕ) → now ≡ round_from place round → place < length round
-    → slice_index now 0 ≡ side → get_or round place 0 ≡ side
-entry_there round now place side is inside first = sym (first_entry round place inside) ∙ (ap (λ entries. slice_index entries 0) (sym is) ∙ first)
+pub is_taking_turns : (order : List ℕ) → length order ≡ 0 → first_round order ≡ First ∷ Second ∷ []
+is_taking_turns [] none = refl
+is_taking_turns (byte ∷ bytes) none = absurd (omega arith)
 
 -- the round behind an entry that was passed
-pub passed_on : (round now after : List ℕ) (place : ℕ) → now ≡ round_from place round → place < length round
+pub passed_on : (round now after : List Side) (place : ℕ) → now ≡ round_from place round → place < length round
     → after ≡ round_from 1 now → after ≡ round_from (place + 1) round
 passed_on round now after place is inside on = on ∙ (ap (round_from 1) is ∙ one_on round place inside)
 
-found_there : (test : ℕ → Bool) (round : List ℕ) (place side : ℕ) → get_or round place 0 ≡ side → place < length round
+-- the next entry, where so many were passed
+pub entry_there : (round now : List Side) (place : ℕ) (side : Side) → now ≡ round_from place round → place < length round
+    → slice_get now 0 ≡ Some side → slice_get round place ≡ Some side
+entry_there round now place side is inside first = sym (first_entry round place inside) ∙ (ap (λ entries. slice_get entries 0) (sym is) ∙ first)
+
+entry_is : (round : List Side) (place : ℕ) (side : Side) → slice_get round place ≡ Some side → place < length round → get_or round place side ≡ side
+entry_is round place side is inside = let there = slice_get-get_or round place side inside in cc
+
+found_there : (test : Side → Bool) (round : List Side) (place : ℕ) (side : Side) → slice_get round place ≡ Some side → place < length round
     → place ≤ position_or_len test round → test side ≡ true → position_or_len test round ≡ place
 found_there test round place side is inside passed passes =
-    grind (arith, is, passes, inside, passed, fails_before_first test round place 0)
+    grind (arith, entry_is round place side is inside, passes, inside, passed, fails_before_first test round place side)
 
 -- an entry whose side has ended is passed
-pub passes_over : (test : ℕ → Bool) (round : List ℕ) (place side : ℕ) → get_or round place 0 ≡ side → place < length round
+pub passes_over : (test : Side → Bool) (round : List Side) (place : ℕ) (side : Side) → slice_get round place ≡ Some side → place < length round
     → place ≤ position_or_len test round → test side ≡ false → place + 1 ≤ position_or_len test round
 passes_over test round place side is inside passed fails =
-    grind (arith, is, fails, inside, passed, passes_at_first test round 0)
-
-found_entry : (test : ℕ → Bool) (round : List ℕ) (place side : ℕ) → get_or round place 0 ≡ side → place < length round
-    → position_or_len test round ≡ place → find test round ≡ Some side
-found_entry test round place side is inside at =
-    find_at test round ∙ (ap (slice_get round) at ∙ (slice_get-get_or round place 0 inside ∙ ap Some is))
+    grind (arith, entry_is round place side is inside, fails, inside, passed, passes_at_first test round side)
 
 -- a side that has not ended has its turn
-pub has_turn : (ended0 ended1 : Bool) (round : List ℕ) (place side : ℕ) → get_or round place 0 ≡ side → place < length round
+pub has_turn : (ended0 ended1 : Bool) (round : List Side) (place : ℕ) (side : Side) → slice_get round place ≡ Some side → place < length round
     → place ≤ position_or_len (goes_on ended0 ended1) round → goes_on ended0 ended1 side ≡ true
-    → (Some side ≡ next_side ended0 ended1 round) × (round_from (place + 1) round ≡ round_after ended0 ended1 round)
+    → (Some side ≡ next_side ended0 ended1 round)
+    × (round_from (place + 1) round ≡ round_after ended0 ended1 round)
 unfolding next_side round_after
 has_turn ended0 ended1 round place side is inside passed passes =
     let at = found_there (goes_on ended0 ended1) round place side is inside passed passes in
-    (rw (found_entry (goes_on ended0 ended1) round place side is inside at) refl, rw at refl)
+    let found : find (goes_on ended0 ended1) round ≡ Some side = find_at (goes_on ended0 ended1) round ∙ (ap (slice_get round) at ∙ is) in
+    (rw found refl, rw at refl)
 
 -- where no entry is of a side that has not ended, that side has its turn and the round stays
-pub has_turn_left : (ended0 ended1 : Bool) (round : List ℕ) (place : ℕ) → length round ≤ place
+pub has_turn_left : (ended0 ended1 : Bool) (round : List Side) (place : ℕ) → length round ≤ place
     → place ≤ position_or_len (goes_on ended0 ended1) round
-    → (side_left ended0 ended1 ≡ next_side ended0 ended1 round) × (round_from place round ≡ round_after ended0 ended1 round)
+    → (side_left ended0 ended1 ≡ next_side ended0 ended1 round)
+    × (round_from place round ≡ round_after ended0 ended1 round)
 unfolding next_side round_after
 has_turn_left ended0 ended1 round place whole passed =
     let none : find (goes_on ended0 ended1) round ≡ None =

@@ -6,4 +6,5 @@ mod side;
 mod turn_order;
 
 pub use order_error::{OrderError, check_order};
+pub use side::Side;
 pub use turn_order::TurnOrder;

@@ -3,12 +3,11 @@ ghost use Rattle.std.specs.Prelude.{◌≡◌, ◌↔◌, IsOk, IfErr, Some};
 ghost use Rattle.turn_order.specs.OrderError.{wrong_place};
 ghost use Rattle.turn_order.specs.TurnOrder.{IsOrder};
 
-use crate::side::is_side;
 use thiserror::Error;
 
-/// A byte of an order is neither side.
+/// A byte of an order is neither 0 nor 1.
 #[derive(Clone, Copy, Debug, PartialEq, Eq, Error)]
-#[error("byte {place} is no side")]
+#[error("the byte at place {place} is neither 0 nor 1")]
 pub struct OrderError {
     /// The place of the first such byte, counted from 0.
     pub place: usize,
@@ -19,7 +18,7 @@ pub fn check_order(bytes: &[u8]) -> Result<(), OrderError>
     ensures order { IsOk result ↔ IsOrder bytes.now }
     ensures wrong { IfErr result (λ error. wrong_place bytes.now ≡ Some error.place) }
 {
-    match bytes.iter().position(|byte| !is_side(*byte)) {
+    match bytes.iter().position(|byte| *byte > 1) {
         Some(place) => Err(OrderError { place }),
         None => Ok(()),
     }
