@@ -1,0 +1,4 @@
+pub mod Parts
+pub mod StateBytes
+pub mod Ciphers
+pub mod Verdicts

@@ -1,0 +1,3 @@
+pub mod ChipState
+pub mod StateFault
+pub mod StateFile

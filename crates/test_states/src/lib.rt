@@ -1,0 +1,5 @@
+//! State files.
+#![tactic(auto)]
+
+#[cfg(test)]
+mod tests;
