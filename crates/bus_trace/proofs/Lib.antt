@@ -1,0 +1,4 @@
+pub mod SpelledFields
+pub mod SpelledEntries
+pub mod EntryLoop
+pub mod RoundTrip
