@@ -1,12 +1,12 @@
 -- What a checked read of a node makes of a bus and a tag engine.
-use Rattle.std.proofs.Common.{◌≡◌, ◌≢◌, ℕ, inr, true, List, [], ◌∷◌, length, Option, Some, None, Result, Ok, Err, refl, ap, sym, ◌∙◌, subst, arith}
+use Rattle.std.proofs.Common.{◌≡◌, ◌≢◌, ℕ, ◌<◌, inr, true, List, [], ◌∷◌, length, Option, Some, None, IfSome, Result, Ok, Err, refl, ap, sym, ◌∙◌, subst, arith}
 use Rattle.std.specs.Option.{option_map, option_or}
 use Rattle.std.specs.Result.{result_err}
 use Rattle.std.proofs.lemmas.Option.{same_Some}
 use Rattle.sec_base.specs.Count.{Rose}
 use Rattle.sec_base.specs.Geometry.{IsNode}
 use Rattle.sec_base.specs.Evidence.{NodeFails}
-use Rattle.sec_base.specs.LastMessage.{last_node}
+use Rattle.sec_base.specs.LastMessage.{last_node, node_part}
 use Rattle.sec_base.specs.declared.counter.Counter.{Counter}
 use Rattle.sec_base.specs.declared.evidence.Evidence.{Evidence}
 use Rattle.sec_base.specs.declared.evidence.Evidence.TheVariants.{Collision}
@@ -22,6 +22,7 @@ use Rattle.bus_model.specs.FirstLie.{AccountsForLies, HonestOrCaught, IsOfFirstL
 use Rattle.bus_model.proofs.Steps.{answered}
 use Rattle.tag_engine.specs.TagEngine.{TagEngineView, collision_of}
 use Rattle.tag_engine.proofs.Collisions.{Collides, collides, known}
+use Rattle.tag_engine.proofs.LastPlaces.{last_place-within}
 use Rattle.checked_bus.specs.Checks.{PassedNode, FailedNode, IsCheckedNode}
 use Rattle.checked_bus.specs.Makes.{IsShownIn, ReadsPlace}
 use Rattle.checked_bus.specs.Steps.{IsAccounted, IsCurrentNode, Moves, ReadsOnce, SameLines, SamePlace}
@@ -286,43 +287,47 @@ module _ {T : Type 0} (tag_of : Message → List ℕ) (level index : ℕ) (tag :
       by_evidence engine.evidence (λ none. node_accounted (current none) used result read was)
       (λ first before. after_evidence used first before result read was)
 
+  -- a collision is with a message that was made before
+  made_before : {block under : List ℕ} {evidence : Evidence} (found : Collides tag_of engine.made level index block under evidence) → found.at < length engine.made
+  made_before found =
+      subst (λ (o : Option ℕ). IfSome o (λ at. at < length engine.made)) (ap (λ (o : Option (ℕ × List ℕ)). option_map (λ last. last.0) o) found.made_last)
+      (last_place-within (node_part level index) engine.made)
+
   -- Evidence is of what was read
   node_shown : {answer : List ℕ} (passed : PassedNode tag_of level index tag history history' engine engine' answer) (evidence : Evidence) → engine.evidence ≡ None →
       engine'.evidence ≡ Some evidence → IsShownIn (length engine.made) (Read (node_place level index) passed.block ∷ []) evidence
   node_shown {answer} passed evidence quiet is =
       let found = collides tag_of engine.made level index passed.block tag evidence (sym (shown_here answer passed quiet) ∙ is) in
       subst (λ (e : Evidence). IsShownIn (length engine.made) (Read (node_place level index) passed.block ∷ []) e) (sym found.is)
-      (record { before = []; after = []; is = refl; count = tt })
+      (record { before = []; after = []; is = refl; count = let below = made_before found in omega (arith, below) })
 
   -- Its accesses
 
-  pub passed_makes : {answer : List ℕ} (passed : PassedNode tag_of level index tag history history' engine engine' answer) →
+  pub passed_makes : IsNode engine.geometry level index → {answer : List ℕ} (passed : PassedNode tag_of level index tag history history' engine engine' answer) →
       ReadsPlace tag_of (λ used. IsCurrentNode tag_of engine.made history.written level index tag) (node_place level index) history engine history' engine'
       (Read (node_place level index) passed.block ∷ []) None
-  passed_makes {answer} passed = record {
+  passed_makes inside {answer} passed = record {
     once = record { bytes = passed.block; is = refl };
     makes = answer_makes tag_of (λ used. IsCurrentNode tag_of engine.made history.written level index tag) history history' engine engine' None
         (node_place level index) passed.block (option_or engine.evidence (collision_of tag_of engine.made level index passed.block tag true))
-        passed.answered passed.checked (record {
+        passed.answered passed.checked inside (λ evidence quiet is. node_shown passed evidence quiet is) (λ place is. absurd (cc)) (record {
           honest = λ used expects was. node_honest used expects (Ok answer) passed was;
           found = λ used expects quiet. none_found engine'.evidence None (λ place is. cc) (collided_lied expects (Ok answer) passed quiet);
-          shown = λ evidence quiet is. node_shown passed evidence quiet is;
-          tampered = λ place is. absurd (cc);
           first = (node_moves (Ok answer) passed).evidence;
         });
   }
 
-  pub failed_makes : (failed : FailedNode tag_of level index tag history history' engine engine') →
+  pub failed_makes : IsNode engine.geometry level index → (failed : FailedNode tag_of level index tag history history' engine engine') →
       ReadsPlace tag_of (λ used. IsCurrentNode tag_of engine.made history.written level index tag) (node_place level index) history engine history' engine'
       (Read (node_place level index) failed.block ∷ []) (Some (Tampered (node_place level index)))
-  failed_makes failed = record {
+  failed_makes inside failed = record {
     once = (record { bytes = failed.block; is = refl }, refl);
     makes = answer_makes tag_of (λ used. IsCurrentNode tag_of engine.made history.written level index tag) history history' engine engine'
-        (Some (Tampered (node_place level index))) (node_place level index) failed.block engine.evidence failed.answered failed.unchanged (record {
+        (Some (Tampered (node_place level index))) (node_place level index) failed.block engine.evidence failed.answered failed.unchanged inside
+        (λ evidence quiet is. let same : engine'.evidence ≡ engine.evidence = ap (λ (e : TagEngineView T). e.evidence) failed.unchanged in absurd (cc))
+        (λ other is. told_last (node_place level index) other (Tampered (node_place level index)) failed.block refl is) (record {
           honest = λ used expects was. node_honest used expects (Err (Tampered (node_place level index))) (refl, failed) was;
           found = λ used expects quiet. inr (node_lied expects failed);
-          shown = λ evidence quiet is. let same : engine'.evidence ≡ engine.evidence = ap (λ (e : TagEngineView T). e.evidence) failed.unchanged in absurd (cc);
-          tampered = λ other is. told_last (node_place level index) other (Tampered (node_place level index)) failed.block refl is;
           first = λ evidence is. ap (λ (e : TagEngineView T). e.evidence) failed.unchanged ∙ is;
         });
   }

@@ -93,13 +93,11 @@ refused_makes {T} tag_of expected place history history' engine engine' result i
     let evidence_is : engine'.evidence ≡ engine.evidence = ap (λ (e : TagEngineView T). e.evidence) unchanged in
     subst (λ (r : Result (List ℕ) MemStop). ReadsPlace tag_of expected place history engine history' engine' [] (result_err r)) (sym is) (record {
       once = refl;
-      makes = nothing_makes tag_of expected history history' engine engine' (Some NoMemory) same unchanged (record {
+      makes = nothing_makes tag_of expected history history' engine engine' (Some NoMemory) same unchanged (λ place is. cc) (record {
         honest = λ used expects was. subst (λ (t : BusHistory). IsAccounted tag_of used engine'.made t (Some NoMemory) engine'.evidence) (sym same)
             (subst (λ (e : TagEngineView T). IsAccounted tag_of used e.made history (Some NoMemory) e.evidence) (sym unchanged)
             (ended_accounted tag_of used engine.made history NoMemory engine.evidence (λ place is. cc) was));
         found = λ used expects quiet. inl (evidence_is ∙ quiet, λ place is. cc);
-        shown = λ evidence quiet is. absurd (cc);
-        tampered = λ place is. absurd (cc);
         first = λ evidence is. evidence_is ∙ is;
       });
     })
@@ -371,34 +369,32 @@ module _ {T : Type 0} (tag_of : Message → List ℕ) (line : ℕ) (counter : Co
 
   -- Its accesses
 
-  pub passed_makes : ((cipher : List ℕ) → length (tag_of (Line line counter cipher)) ≡ 16) → {cipher : List ℕ}
+  pub passed_makes : line < line_count engine.geometry → ((cipher : List ℕ) → length (tag_of (Line line counter cipher)) ≡ 16) → {cipher : List ℕ}
       (passed : Passed tag_of line counter history history' engine engine' cipher) →
       ReadsPlace tag_of (λ used. IsCurrent tag_of used engine.made history.written line counter) (line_place line) history engine history' engine'
       (Read (line_place line) (sealed_bytes passed.sealed) ∷ []) None
-  passed_makes tag_long {cipher} passed = record {
+  passed_makes inside tag_long {cipher} passed = record {
     once = record { bytes = sealed_bytes passed.sealed; is = refl };
     makes = answer_makes tag_of (λ used. IsCurrent tag_of used engine.made history.written line counter) history history' engine engine' None
         (line_place line) (sealed_bytes passed.sealed) (option_or engine.evidence (forgery_of engine.made line counter passed.sealed true))
-        passed.answered passed.checked (record {
+        passed.answered passed.checked inside (λ evidence quiet is. read_shown passed evidence quiet is) (λ place is. absurd (cc)) (record {
           honest = λ used expects was. read_honest tag_long used expects (Ok cipher) passed was;
           found = λ used expects quiet. none_found engine'.evidence None (λ place is. cc) (shown_lied tag_long used expects (Ok cipher) passed quiet);
-          shown = λ evidence quiet is. read_shown passed evidence quiet is;
-          tampered = λ place is. absurd (cc);
           first = (read_moves (Ok cipher) passed).evidence;
         });
   }
 
-  pub failed_makes : ((cipher : List ℕ) → length (tag_of (Line line counter cipher)) ≡ 16) → (failed : Failed tag_of line counter history history' engine engine') →
+  pub failed_makes : line < line_count engine.geometry → ((cipher : List ℕ) → length (tag_of (Line line counter cipher)) ≡ 16) → (failed : Failed tag_of line counter history history' engine engine') →
       ReadsPlace tag_of (λ used. IsCurrent tag_of used engine.made history.written line counter) (line_place line) history engine history' engine'
       (Read (line_place line) (sealed_bytes failed.sealed) ∷ []) (Some (Tampered (line_place line)))
-  failed_makes tag_long failed = record {
+  failed_makes inside tag_long failed = record {
     once = (record { bytes = sealed_bytes failed.sealed; is = refl }, refl);
     makes = answer_makes tag_of (λ used. IsCurrent tag_of used engine.made history.written line counter) history history' engine engine'
-        (Some (Tampered (line_place line))) (line_place line) (sealed_bytes failed.sealed) engine.evidence failed.answered failed.unchanged (record {
+        (Some (Tampered (line_place line))) (line_place line) (sealed_bytes failed.sealed) engine.evidence failed.answered failed.unchanged inside
+        (λ evidence quiet is. let same : engine'.evidence ≡ engine.evidence = ap (λ (e : TagEngineView T). e.evidence) failed.unchanged in absurd (cc))
+        (λ other is. told_last (line_place line) other (Tampered (line_place line)) (sealed_bytes failed.sealed) refl is) (record {
           honest = λ used expects was. read_honest tag_long used expects (Err (Tampered (line_place line))) (refl, failed) was;
           found = λ used expects quiet. inr (tampered_lied tag_long used expects failed);
-          shown = λ evidence quiet is. let same : engine'.evidence ≡ engine.evidence = ap (λ (e : TagEngineView T). e.evidence) failed.unchanged in absurd (cc);
-          tampered = λ other is. told_last (line_place line) other (Tampered (line_place line)) (sealed_bytes failed.sealed) refl is;
           first = λ evidence is. ap (λ (e : TagEngineView T). e.evidence) failed.unchanged ∙ is;
         });
   }

@@ -1,5 +1,5 @@
 -- What an answer for a place makes of a bus, and what stays where there was none.
-use Rattle.std.proofs.Common.{◌≡◌, ◌≢◌, ℕ, inl, inr, Bool, true, false, cond, List, [], ◌∷◌, Option, None, Some, refl, ap, sym, ◌∙◌, subst, arith}
+use Rattle.std.proofs.Common.{◌≡◌, ◌≢◌, ℕ, inl, inr, Bool, true, false, cond, List, [], ◌∷◌, Option, None, Some, refl, ap, sym, ◌∙◌, subst, arith, length}
 use Rattle.std.proofs.lemmas.List.{append-nil}
 use Rattle.sec_base.specs.Count.{more_by, Rose, RoseBy}
 use Rattle.sec_base.specs.LastMessage.{data_pairs}
@@ -17,8 +17,9 @@ use Rattle.bus_model.specs.BusHistory.{BusHistory, after_read}
 use Rattle.bus_model.proofs.Steps.{true_or_false, read_geometry, read_written, read_reads, read_accesses, read_rose}
 use Rattle.tag_engine.specs.TagEngine.{TagEngineView}
 use Rattle.checked_bus.specs.Accesses.{AreCounted}
-use Rattle.checked_bus.specs.Makes.{IsChecked, Makes}
+use Rattle.checked_bus.specs.Makes.{HasAccesses, IsChecked, IsShownIn, Makes}
 use Rattle.checked_bus.specs.Steps.{IsAccounted, Moves, ReadsOnce, SameLines, SamePlace}
+use Rattle.checked_bus.proofs.Makes.{has_not}
 use Rattle.checked_bus.proofs.FalseAnswers.{first_lie_stays}
 use Rattle.checked_bus.proofs.Counting.{read_counted}
 use Rattle.checked_bus.proofs.Steps.{moves_not, counted_not, same_last, same_lines_not, same_place_not}
@@ -165,34 +166,41 @@ told_last place other stop bytes here is = record {
 module _ {T : Type 0} (tag_of : Message → List ℕ) (expected : List (ℕ × Counter) → Type 0) (history history' : BusHistory)
     (engine engine' : TagEngineView T) (stop : Option MemStop) where
   pub answer_makes : (place : Place) (bytes : List ℕ) (shown : Option Evidence) → history' ≡ after_read place bytes history →
-      engine' ≡ record engine { evidence = shown } → IsChecked tag_of expected history engine history' engine' (Read place bytes ∷ []) stop →
-      Makes tag_of expected history engine history' engine' (Read place bytes ∷ []) stop
-  answer_makes place bytes shown answered engine_is checked = record {
+      engine' ≡ record engine { evidence = shown } → IsPlace engine.geometry place →
+      ((evidence : Evidence) → engine.evidence ≡ None → engine'.evidence ≡ Some evidence → IsShownIn (length engine.made) (Read place bytes ∷ []) evidence) →
+      ((other : Place) → stop ≡ Some (Tampered other) → EndsWithRead other (Read place bytes ∷ [])) →
+      IsChecked tag_of expected history engine history' engine' stop → Makes tag_of expected history engine history' engine' (Read place bytes ∷ []) stop
+  answer_makes place bytes shown answered engine_is inside shows tells checked = record {
     came = answered;
     bus_geometry = ap (λ (t : BusHistory). t.geometry) answered ∙ read_geometry place bytes history;
-    written = [];
-    unwritten = [];
-    made = ap (λ (e : TagEngineView T). e.made) engine_is ∙ sym (append-nil engine.made);
-    writes = refl;
-    few = omega arith;
+    has = record {
+      written = [];
+      unwritten = [];
+      made = ap (λ (e : TagEngineView T). e.made) engine_is ∙ sym (append-nil engine.made);
+      writes = refl;
+      few = omega arith;
+      inside = (inside, tt);
+      shown = shows;
+      tampered = tells;
+    };
     geometry = ap (λ (e : TagEngineView T). e.geometry) engine_is;
     tagger = ap (λ (e : TagEngineView T). e.tagger) engine_is;
-    room = let is : engine'.room ≡ engine.room = ap (λ (e : TagEngineView T). e.room) engine_is in omega (arith, is);
+    room =
+        let is : engine'.room ≡ engine.room = ap (λ (e : TagEngineView T). e.room) engine_is in
+        let made : length engine'.made ≡ length engine.made = ap (λ (e : TagEngineView T). length e.made) engine_is in omega (arith, is, made);
     checked = checked;
   }
 
-  pub nothing_makes : history' ≡ history → engine' ≡ engine → IsChecked tag_of expected history engine history' engine' [] stop →
-      Makes tag_of expected history engine history' engine' [] stop
-  nothing_makes same engine_is checked = record {
+  pub nothing_makes : history' ≡ history → engine' ≡ engine → ((place : Place) → stop ≢ Some (Tampered place)) →
+      IsChecked tag_of expected history engine history' engine' stop → Makes tag_of expected history engine history' engine' [] stop
+  nothing_makes same engine_is untampered checked = record {
     came = same;
     bus_geometry = ap (λ (t : BusHistory). t.geometry) same;
-    written = [];
-    unwritten = [];
-    made = ap (λ (e : TagEngineView T). e.made) engine_is ∙ sym (append-nil engine.made);
-    writes = refl;
-    few = omega arith;
+    has = subst (λ (e : TagEngineView T). HasAccesses tag_of engine e [] stop) (sym engine_is) (has_not tag_of engine stop untampered);
     geometry = ap (λ (e : TagEngineView T). e.geometry) engine_is;
     tagger = ap (λ (e : TagEngineView T). e.tagger) engine_is;
-    room = let is : engine'.room ≡ engine.room = ap (λ (e : TagEngineView T). e.room) engine_is in omega (arith, is);
+    room =
+        let is : engine'.room ≡ engine.room = ap (λ (e : TagEngineView T). e.room) engine_is in
+        let made : length engine'.made ≡ length engine.made = ap (λ (e : TagEngineView T). length e.made) engine_is in omega (arith, is, made);
     checked = checked;
   }

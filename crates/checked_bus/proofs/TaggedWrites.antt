@@ -1,10 +1,12 @@
 -- What a tagged write makes of a bus and a tag engine.
-use Rattle.std.proofs.Common.{◌≡◌, ◌≢◌, ℕ, true, false, inl, List, [], ◌∷◌, ◌++◌, Option, None, Some, OnOk, OnErr, Result, Ok, Err, refl, ap, sym, ◌∙◌, subst, arith}
+use Rattle.std.proofs.Common.{◌≡◌, ◌≢◌, ℕ, true, false, inl, List, [], ◌∷◌, ◌++◌, Option, None, Some, OnOk, OnErr, Result, Ok, Err, refl, ap, sym, ◌∙◌, subst, arith, length, ◌+◌, ◌-◌, length-append}
 use Rattle.std.specs.Prelude.{IsErr}
 use Rattle.sec_base.specs.Count.{more_by, RoseBy}
 use Rattle.sec_base.specs.Evidence.{IsEvidence}
 use Rattle.sec_base.specs.LastMessage.{data_pairs, data_part, node_part}
+use Rattle.sec_base.specs.Place.{IsPlace}
 use Rattle.sec_base.specs.declared.counter.Counter.{Counter}
+use Rattle.sec_base.specs.declared.evidence.Evidence.{Evidence}
 use Rattle.sec_base.specs.declared.message.Message.{Message}
 use Rattle.sec_base.specs.declared.message.Message.TheVariants.{Line, Node}
 use Rattle.sec_base.specs.declared.place.Place.{Place}
@@ -14,13 +16,13 @@ use Rattle.sec_base.proofs.SamePlaces.{at_place-there}
 use Rattle.sec_base.specs.declared.stop.NoMemory.{NoMemory as refusal}
 use Rattle.sec_base.specs.declared.stop.MemStop.{MemStop}
 use Rattle.sec_base.specs.declared.stop.MemStop.TheVariants.{Tampered, NoMemory}
-use Rattle.bus_model.specs.Access.{Access, Write, CameBy, after_all, one_write, writes_in}
+use Rattle.bus_model.specs.Access.{Access, Write, AreOf, CameBy, after_all, one_write, writes_in}
 use Rattle.bus_model.proofs.Accesses.{all_geometry}
 use Rattle.bus_model.specs.BusHistory.{BusHistory, after_write}
 use Rattle.tag_engine.specs.TagEngine.{TagEngineView, after_make}
 use Rattle.tag_engine.proofs.Forgeries.{still_genuine}
 use Rattle.tag_engine.proofs.LastPlaces.{node_part-other}
-use Rattle.checked_bus.specs.Makes.{access_of, if_done, IsChecked, WritesMessage}
+use Rattle.checked_bus.specs.Makes.{access_of, if_done, IsChecked, IsShownIn, WritesMessage}
 use Rattle.checked_bus.specs.Steps.{IsAccounted, Moves, SameLast, SameLines, SamePlace, WritesOnce}
 use Rattle.checked_bus.proofs.LineMessages.{last_data-other}
 use Rattle.checked_bus.proofs.FalseAnswers.{made_more}
@@ -171,10 +173,10 @@ message_writes tag_of (Node level index block) = refl
 
 module _ {T : Type 0} (tag_of : Message → List ℕ) (message : Message) (history history' : BusHistory)
     (engine engine' : TagEngineView T) (made : engine' ≡ after_make message engine) where
-  write_checked : (accesses : List Access) (stop : Option MemStop) → ((place : Place) → stop ≢ Some (Tampered place)) →
+  write_checked : (stop : Option MemStop) → ((place : Place) → stop ≢ Some (Tampered place)) →
       history'.lies ≡ history.lies → history'.lie ≡ history.lie →
-      IsChecked tag_of (λ used. Unit {0}) history engine history' engine' accesses stop
-  write_checked accesses stop untampered lies lie = record {
+      IsChecked tag_of (λ used. Unit {0}) history engine history' engine' stop
+  write_checked stop untampered lies lie = record {
     honest = λ used expects was.
         subst (λ (e : TagEngineView T). IsAccounted tag_of used e.made history' stop e.evidence) (sym made) (record {
           account = record {
@@ -186,38 +188,57 @@ module _ {T : Type 0} (tag_of : Message → List ℕ) (message : Message) (histo
           genuine = still_genuine tag_of engine.made (message ∷ []) engine.evidence was.genuine;
         });
     found = λ used expects quiet. inl (ap (λ (e : TagEngineView T). e.evidence) made ∙ quiet, untampered);
-    shown = λ evidence quiet is. let same : engine'.evidence ≡ engine.evidence = ap (λ (e : TagEngineView T). e.evidence) made in absurd (cc);
-    tampered = λ place is. absurd (untampered place is);
     first = λ evidence is. ap (λ (e : TagEngineView T). e.evidence) made ∙ is;
   }
 
-  pub write_makes : {A E : Type 0} (result : Result A E) → CameBy history (if_done result (access_of tag_of message)) history' →
+  message_room : engine'.room ≡ engine.room - (length engine'.made - length engine.made)
+  message_room =
+      let taken : engine'.room ≡ engine.room - 1 = ap (λ (e : TagEngineView T). e.room) made in
+      let one : length engine'.made ≡ length engine.made + 1 = ap (λ (e : TagEngineView T). length e.made) made ∙ length-append engine.made (message ∷ []) in
+      omega (arith, taken, one)
+
+  none_shown : (accesses : List Access) (evidence : Evidence) → engine.evidence ≡ None → engine'.evidence ≡ Some evidence →
+      IsShownIn (length engine.made) accesses evidence
+  none_shown accesses evidence quiet is =
+      let same : engine'.evidence ≡ engine.evidence = ap (λ (e : TagEngineView T). e.evidence) made in absurd (cc)
+
+  pub write_makes : AreOf (IsPlace engine.geometry) (access_of tag_of message ∷ []) → {A E : Type 0} (result : Result A E) → CameBy history (if_done result (access_of tag_of message)) history' →
       WritesMessage tag_of message history engine history' engine' result
-  write_makes (Ok value) came = record {
+  write_makes inside (Ok value) came = record {
     came = came;
     bus_geometry = ap (λ (t : BusHistory). t.geometry) came ∙ all_geometry (access_of tag_of message ∷ []) history;
-    written = message ∷ [];
-    unwritten = [];
-    made = ap (λ (e : TagEngineView T). e.made) made;
-    writes = message_writes tag_of message;
-    few = omega arith;
+    has = record {
+      written = message ∷ [];
+      unwritten = [];
+      made = ap (λ (e : TagEngineView T). e.made) made;
+      writes = message_writes tag_of message;
+      few = omega arith;
+      inside = inside;
+      shown = none_shown (access_of tag_of message ∷ []);
+      tampered = λ place is. absurd (cc);
+    };
     geometry = ap (λ (e : TagEngineView T). e.geometry) made;
     tagger = ap (λ (e : TagEngineView T). e.tagger) made;
-    room = ap (λ (e : TagEngineView T). e.room) made;
-    checked = write_checked (access_of tag_of message ∷ []) None (λ place is. cc)
+    room = message_room;
+    checked = write_checked None (λ place is. cc)
         (ap (λ (t : BusHistory). t.lies) came ∙ (message_lies tag_of message history).0)
         (ap (λ (t : BusHistory). t.lie) came ∙ (message_lies tag_of message history).1);
   }
-  write_makes (Err error) came = record {
+  write_makes inside (Err error) came = record {
     came = came;
     bus_geometry = ap (λ (t : BusHistory). t.geometry) came;
-    written = [];
-    unwritten = message ∷ [];
-    made = ap (λ (e : TagEngineView T). e.made) made;
-    writes = refl;
-    few = omega arith;
+    has = record {
+      written = [];
+      unwritten = message ∷ [];
+      made = ap (λ (e : TagEngineView T). e.made) made;
+      writes = refl;
+      few = omega arith;
+      inside = tt;
+      shown = none_shown [];
+      tampered = λ place is. absurd (cc);
+    };
     geometry = ap (λ (e : TagEngineView T). e.geometry) made;
     tagger = ap (λ (e : TagEngineView T). e.tagger) made;
-    room = ap (λ (e : TagEngineView T). e.room) made;
-    checked = write_checked [] (Some NoMemory) (λ place is. cc) (ap (λ (t : BusHistory). t.lies) came) (ap (λ (t : BusHistory). t.lie) came);
+    room = message_room;
+    checked = write_checked (Some NoMemory) (λ place is. cc) (ap (λ (t : BusHistory). t.lies) came) (ap (λ (t : BusHistory). t.lie) came);
   }

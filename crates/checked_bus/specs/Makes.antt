@@ -1,8 +1,9 @@
 -- What a call makes of a bus and a tag engine, told by its accesses. It holds of no call, and of two calls one after the
 -- other where it holds of each.
-use Rattle.std.specs.Prelude.{◌≡◌, ◌≢◌, ◌⊎◌, ℕ, ◌+◌, ◌-◌, ◌≤◌, List, [], ◌∷◌, ◌++◌, length, map, Option, Some, None, Result, Ok, Err}
+use Rattle.std.specs.Prelude.{◌≡◌, ◌≢◌, ◌⊎◌, ℕ, ◌+◌, ◌-◌, ◌<◌, ◌≤◌, List, [], ◌∷◌, ◌++◌, length, map, Option, Some, None, Result, Ok, Err}
 use Rattle.sec_base.specs.Count.{Rose}
 use Rattle.sec_base.specs.Evidence.{evidence_bytes, evidence_place}
+use Rattle.sec_base.specs.Place.{IsPlace}
 use Rattle.sec_base.specs.declared.counter.Counter.{Counter}
 use Rattle.sec_base.specs.declared.evidence.Evidence.{Evidence}
 use Rattle.sec_base.specs.declared.evidence.Evidence.TheVariants.{Forgery, Collision}
@@ -12,7 +13,7 @@ use Rattle.sec_base.specs.declared.place.Place.{Place}
 use Rattle.sec_base.specs.declared.place.Place.TheVariants.{Line as line_place, Node as node_place}
 use Rattle.sec_base.specs.declared.stop.MemStop.{MemStop}
 use Rattle.sec_base.specs.declared.stop.MemStop.TheVariants.{Tampered, Spent, NoMemory}
-use Rattle.bus_model.specs.Access.{Access, Read, Write, CameBy, EndsWithRead, writes_in}
+use Rattle.bus_model.specs.Access.{Access, Read, Write, AreOf, CameBy, EndsWithRead, writes_in}
 use Rattle.bus_model.specs.BusHistory.{BusHistory}
 use Rattle.tag_engine.specs.TagEngine.{TagEngineView}
 use Rattle.checked_bus.specs.SealedLine.{sealed_line}
@@ -23,22 +24,44 @@ abbrev pub access_of : (Message → List ℕ) → Message → Access
 access_of tag_of (Line line counter cipher) = Write (line_place line) (sealed_line tag_of line counter cipher)
 access_of tag_of (Node level index block) = Write (node_place level index) block
 
--- a forgery has this count of messages
+-- so many messages were made before the answer that is shown: a forgery counts them, and a collision is with one of them
 abbrev pub HasCount : ℕ → Evidence → Type 0
 HasCount count (Forgery line counter sealed made_count) = made_count ≡ count
-HasCount count (Collision level index made_at accepted tag) = Unit {0}
+HasCount count (Collision level index made_at accepted tag) = made_at < count
 
--- Evidence is of an answer among these, and counts the messages that were made before it.
+-- Evidence is of an answer among these, and of the messages that were made before it.
 pub record IsShownIn (made : ℕ) (accesses : List Access) (evidence : Evidence) : Type 0 where
   pub before : List Access
   pub after : List Access
   pub is : accesses ≡ before ++ Read (evidence_place evidence) (evidence_bytes evidence) ∷ after
   pub count : HasCount (made + length (writes_in before)) evidence
 
+-- What a call's accesses say of its messages, its evidence and its stop. Each write puts out one message, in order; where there
+-- was no memory, the last message may not have been written. Evidence that came in this call is of one of its answers. Tampering
+-- is of its last access, a read.
+pub record HasAccesses {T : Type 0} (tag_of : Message → List ℕ) (engine engine' : TagEngineView T)
+    (accesses : List Access) (stop : Option MemStop) : Type 0 where
+  pub written : List Message
+  pub unwritten : List Message
+  pub made : engine'.made ≡ engine.made ++ (written ++ unwritten)
+  pub writes : writes_in accesses ≡ map (access_of tag_of) written
+  pub few : length unwritten ≤ unwritten_in stop
+  pub inside : AreOf (IsPlace engine.geometry) accesses
+  pub shown : (evidence : Evidence) → engine.evidence ≡ None → engine'.evidence ≡ Some evidence →
+      IsShownIn (length engine.made) accesses evidence
+  pub tampered : (place : Place) → stop ≡ Some (Tampered place) → EndsWithRead place accesses
+
+-- Some accesses of the bus are all that a call made of it.
+pub record MakesAccesses {B T : Type 0} (bus_moved : B → List Access → B → Type 0) (tag_of : Message → List ℕ) (bus : B)
+    (engine : TagEngineView T) (bus' : B) (engine' : TagEngineView T) (stop : Option MemStop) : Type 0 where
+  pub accesses : List Access
+  pub moved : bus_moved bus accesses bus'
+  pub has : HasAccesses tag_of engine engine' accesses stop
+
 -- What became of false answers, where what is expected is what stands outside.
 pub record IsChecked {T : Type 0} (tag_of : Message → List ℕ) (expected : List (ℕ × Counter) → Type 0)
     (history : BusHistory) (engine : TagEngineView T) (history' : BusHistory) (engine' : TagEngineView T)
-    (accesses : List Access) (stop : Option MemStop) : Type 0 where
+    (stop : Option MemStop) : Type 0 where
   -- they are accounted for, with evidence from before whatever was expected
   pub honest : (used : List (ℕ × Counter)) → (engine.evidence ≡ None → expected used) →
       IsAccounted tag_of used engine.made history None engine.evidence →
@@ -46,29 +69,20 @@ pub record IsChecked {T : Type 0} (tag_of : Message → List ℕ) (expected : Li
   -- nothing was found, or an answer was false
   pub found : (used : List (ℕ × Counter)) → expected used → engine.evidence ≡ None →
       ((engine'.evidence ≡ None) × ((place : Place) → stop ≢ Some (Tampered place))) ⊎ Rose history.lies history'.lies
-  -- evidence is of an answer among these, and tampering of the last one
-  pub shown : (evidence : Evidence) → engine.evidence ≡ None → engine'.evidence ≡ Some evidence →
-      IsShownIn (length engine.made) accesses evidence
-  pub tampered : (place : Place) → stop ≡ Some (Tampered place) → EndsWithRead place accesses
   -- the first evidence stays
   pub first : (evidence : Evidence) → engine.evidence ≡ Some evidence → engine'.evidence ≡ Some evidence
 
--- A call made these accesses. Its writes are those of the messages that it made, in order, but for the last message where
--- there was no memory to write it.
+-- A call made these accesses, and nothing else of a bus and a tag engine.
 pub record Makes {T : Type 0} (tag_of : Message → List ℕ) (expected : List (ℕ × Counter) → Type 0)
     (history : BusHistory) (engine : TagEngineView T) (history' : BusHistory) (engine' : TagEngineView T)
     (accesses : List Access) (stop : Option MemStop) : Type 0 where
   pub came : CameBy history accesses history'
   pub bus_geometry : history'.geometry ≡ history.geometry
-  pub written : List Message
-  pub unwritten : List Message
-  pub made : engine'.made ≡ engine.made ++ (written ++ unwritten)
-  pub writes : writes_in accesses ≡ map (access_of tag_of) written
-  pub few : length unwritten ≤ unwritten_in stop
+  pub has : HasAccesses tag_of engine engine' accesses stop
   pub geometry : engine'.geometry ≡ engine.geometry
   pub tagger : engine'.tagger ≡ engine.tagger
-  pub room : engine'.room ≡ engine.room - length (written ++ unwritten)
-  pub checked : IsChecked tag_of expected history engine history' engine' accesses stop
+  pub room : engine'.room ≡ engine.room - (length engine'.made - length engine.made)
+  pub checked : IsChecked tag_of expected history engine history' engine' stop
 
 -- one read of a place
 pub record HasAnswer (place : Place) (accesses : List Access) : Type 0 where

@@ -11,7 +11,7 @@ ghost use Rattle.sec_base.specs.declared.place.Place.{Place};
 ghost use Rattle.sec_base.specs.declared.place.Place.TheVariants.{Line as line_place};
 ghost use Rattle.sec_base.specs.declared.sealed.Sealed.{Sealed};
 ghost use Rattle.sec_base.specs.declared.stop.MemStop.TheVariants.{Tampered, Spent};
-ghost use Rattle.bus_model.specs.Access.{Access, Reaches};
+ghost use Rattle.bus_model.specs.Access.{Access};
 ghost use Rattle.bus_model.specs.BusHistory.{after_write};
 ghost use Rattle.tag_engine.specs.TagEngine.{after_make, tags_of};
 ghost use Rattle.checked_bus.specs.Checks.{IsCheckedRead};
@@ -76,7 +76,6 @@ pub fn read_line<B: Bus, T: Tagger>(
         IsCurrent (tags_of T.data_tag_of T.node_tag_of tags.old) used tags.old.made (B.history bus.old).written line counter →
         tags.old.evidence ≡ None → (tags.new.evidence ≡ None) ⊎ Rose (B.history bus.old).lies (B.history bus.new).lies }
     ensures unspent { (page : ℕ) → result ≢ Err (Spent page) }
-    ensures moved { Reaches B.moved bus.old bus.new }
 {
     let sealed = bus.read_data(line)?;
     if !tags.check_data(line, counter, &sealed) {
@@ -121,7 +120,6 @@ pub fn write_line<B: Bus, T: Tagger>(
     ensures honest { (used more : List (ℕ × Counter)) →
         IsAccounted (tags_of T.data_tag_of T.node_tag_of tags.old) used tags.old.made (B.history bus.old) None tags.old.evidence →
         IsAccounted (tags_of T.data_tag_of T.node_tag_of tags.old) more tags.new.made (B.history bus.new) None tags.new.evidence }
-    ensures moved { Reaches B.moved bus.old bus.new }
 {
     let tag = tags.make_data(line, counter, cipher)?;
     let sealed = Sealed {

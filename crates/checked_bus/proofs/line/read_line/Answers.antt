@@ -57,7 +57,7 @@ returns-then-not-check_data-clause-makes g c = (
   _,
   c.in_ok-sealed.ensures.access,
   failed_makes (tags_of g.T.Tagger.data_tag_of g.T.Tagger.node_tag_of c.args.tags.now) c.args.line c.args.counter
-      (g.B.Bus.history c.args.bus.now) (g.B.Bus.history c.read_data.new.self) c.args.tags.now c.check_data.new.self
+      (g.B.Bus.history c.args.bus.now) (g.B.Bus.history c.read_data.new.self) c.args.tags.now c.check_data.new.self c.requires.line
       (λ cipher. marked_long c.args.tags.now.geometry.layout (g.T.Tagger.data_tag_of c.args.tags.now.tagger (data_bytes c.args.line c.args.counter cipher))
       (g.met.T.Tagger.data_tag_long c.args.tags.now.tagger (data_bytes c.args.line c.args.counter cipher)))
       (returns-then-not-check_data-clause-read g c).1,
@@ -166,7 +166,7 @@ returns-clause-makes g c = (
   _,
   c.in_ok-sealed.ensures.access,
   passed_makes (tags_of g.T.Tagger.data_tag_of g.T.Tagger.node_tag_of c.args.tags.now) c.args.line c.args.counter
-      (g.B.Bus.history c.args.bus.now) (g.B.Bus.history c.read_data.new.self) c.args.tags.now c.check_data.new.self
+      (g.B.Bus.history c.args.bus.now) (g.B.Bus.history c.read_data.new.self) c.args.tags.now c.check_data.new.self c.requires.line
       (λ cipher. marked_long c.args.tags.now.geometry.layout (g.T.Tagger.data_tag_of c.args.tags.now.tagger (data_bytes c.args.line c.args.counter cipher))
       (g.met.T.Tagger.data_tag_long c.args.tags.now.tagger (data_bytes c.args.line c.args.counter cipher)))
       (returns-clause-read g c),

@@ -43,7 +43,7 @@ returns-clause-makes g c =
     (ap (λ (tag : List ℕ). c.args.cipher.now ++ tag) c.in_ok-tag.ensures.tag)) c.write_data.ensures.access in (
       wrote,
       write_makes tag_of message (g.B.Bus.history c.args.bus.now) (g.B.Bus.history c.write_data.new.self)
-          c.args.tags.now c.make_data.new.self (returns-clause-made g c) c.write_data.result
+          c.args.tags.now c.make_data.new.self (returns-clause-made g c) (c.requires.line, tt) c.write_data.result
           (g.met.B.Bus.told c.args.bus.now c.write_data.new.self _ wrote),
     )
 

@@ -60,7 +60,7 @@ returns-then-not-check_node-clause-makes g c = (
   c.in_ok-block.ensures.access,
   failed_makes (tags_of g.T.Tagger.data_tag_of g.T.Tagger.node_tag_of c.args.tags.now) c.args.level c.args.index c.args.tag.now
       (g.B.Bus.history c.args.bus.now) (g.B.Bus.history c.read_node.new.self) c.args.tags.now c.check_node.new.self
-      (returns-then-not-check_node-clause-read g c).1,
+      c.requires.node (returns-then-not-check_node-clause-read g c).1,
 )
 
 pub returns-then-not-check_node-clause-moves : goal.returns-then-not-check_node-clause-moves
@@ -126,7 +126,7 @@ returns-clause-makes g c = (
   c.in_ok-block.ensures.access,
   passed_makes (tags_of g.T.Tagger.data_tag_of g.T.Tagger.node_tag_of c.args.tags.now) c.args.level c.args.index c.args.tag.now
       (g.B.Bus.history c.args.bus.now) (g.B.Bus.history c.read_node.new.self) c.args.tags.now c.check_node.new.self
-      (returns-clause-read g c),
+      c.requires.node (returns-clause-read g c),
 )
 
 pub returns-clause-moves : goal.returns-clause-moves

@@ -25,7 +25,7 @@ returns-in_err-write_node-clause-makes g c =
     (none_done result (access_of tag_of message) c.from_residual-in_err-write_node.ensures.0) c.in_err-write_node.ensures.access in (
       none,
       write_makes tag_of message (g.B.Bus.history c.args.bus.now) (g.B.Bus.history c.write_node.new.self)
-          c.args.tags.now c.make_node.new.self (returns-in_err-write_node-clause-made g c) result
+          c.args.tags.now c.make_node.new.self (returns-in_err-write_node-clause-made g c) (c.requires.node, tt) result
           (g.met.B.Bus.told c.args.bus.now c.write_node.new.self _ none),
     )
 
@@ -63,7 +63,7 @@ returns-clause-makes g c = (
   c.in_ok-write_node.ensures.access,
   write_makes (tags_of g.T.Tagger.data_tag_of g.T.Tagger.node_tag_of c.args.tags.now)
       (Node c.args.level c.args.index c.args.block.now) (g.B.Bus.history c.args.bus.now) (g.B.Bus.history c.write_node.new.self)
-      c.args.tags.now c.make_node.new.self (returns-clause-made g c) {E = NoMemory} (Ok c.in_ok-tag.tag)
+      c.args.tags.now c.make_node.new.self (returns-clause-made g c) (c.requires.node, tt) {E = NoMemory} (Ok c.in_ok-tag.tag)
       (g.met.B.Bus.told c.args.bus.now c.write_node.new.self _ c.in_ok-write_node.ensures.access),
 )
 
