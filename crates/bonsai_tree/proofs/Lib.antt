@@ -15,3 +15,4 @@ pub mod NodeCalls
 pub mod WrittenBack
 pub mod OutFor
 pub mod PathCalls
+pub mod TreeCalls

@@ -137,8 +137,8 @@ module _ {T : Type 0} (d n : T → List ℕ → List ℕ) where
     pub fetched_block : HoldsTree (tags_of d n) tree old engine → engine''.evidence ≡ None → IfOk result (λ block. block ≡ page_block page engine.made)
     fetched_block holds quiet = block_by result (read.block (fetched_kept holds quiet) quiet)
 
-    pub fetched_found : (evidence : Evidence) → engine.evidence ≡ None → engine''.evidence ≡ Some evidence → IsFetchPlace tree.geometry page (evidence_place evidence)
-    fetched_found evidence quiet is =
+    pub fetched_found : engine.evidence ≡ None → (evidence : Evidence) → engine''.evidence ≡ Some evidence → IsFetchPlace tree.geometry page (evidence_place evidence)
+    fetched_found quiet evidence is =
         elim (some_or_none engine'.evidence) [
           | inl still ↦ inl (read.found evidence still is)
           | inr shown ↦

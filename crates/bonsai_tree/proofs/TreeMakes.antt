@@ -1,6 +1,5 @@
 -- The accesses of calls on the tree, where it is expected that the tree fits.
 use Rattle.std.proofs.Common.{◌≡◌, ◌≢◌, inl, inr, ℕ, ◌-◌, List, [], ◌∷◌, ◌++◌, length, max, Option, Some, None, refl, ap, sym, ◌∙◌, subst, arith, length-append}
-use Rattle.std.proofs.lemmas.List.{append-nil}
 use Rattle.sec_base.specs.Geometry.{IsNode}
 use Rattle.sec_base.specs.declared.counter.Counter.{Counter}
 use Rattle.sec_base.specs.declared.message.Message.{Message}
@@ -9,10 +8,10 @@ use Rattle.sec_base.specs.declared.stop.MemStop.TheVariants.{NoMemory}
 use Rattle.bus_model.specs.Access.{Access}
 use Rattle.bus_model.specs.BusHistory.{BusHistory}
 use Rattle.tag_engine.specs.TagEngine.{TagEngineView, after_make, tags_of, with_room}
-use Rattle.checked_bus.specs.Makes.{Makes}
+use Rattle.checked_bus.specs.Makes.{Makes, MakesAccesses}
 use Rattle.checked_bus.specs.Steps.{IsCurrentNode}
 use Rattle.checked_bus.proofs.CheckedReads.{ended_accounted}
-use Rattle.checked_bus.proofs.Makes.{makes_not, makes_on, makes_then, makes_under}
+use Rattle.checked_bus.proofs.Makes.{has_not, makes_not, makes_on, makes_then, makes_under}
 use Rattle.bonsai_tree.specs.Climb.{Climbs}
 use Rattle.bonsai_tree.specs.KeptRead.{IsKeptNode}
 use Rattle.bonsai_tree.specs.Node.{no_tag}
@@ -25,19 +24,13 @@ pub makes_refused : {T : Type 0} (tag_of : Message → List ℕ) (expected : Lis
 makes_refused tag_of expected history engine = record {
   came = refl;
   bus_geometry = refl;
-  written = [];
-  unwritten = [];
-  made = sym (append-nil engine.made);
-  writes = refl;
-  few = omega arith;
+  has = has_not tag_of engine (Some NoMemory) (λ place is. cc);
   geometry = refl;
   tagger = refl;
   room = omega arith;
   checked = record {
     honest = λ used expects was. ended_accounted tag_of used engine.made history NoMemory engine.evidence (λ place is. cc) was;
     found = λ used expects quiet. inl (quiet, λ place is. cc);
-    shown = λ evidence quiet is. absurd (cc);
-    tampered = λ place is. absurd (cc);
     first = λ evidence is. is;
   };
 }
@@ -49,6 +42,17 @@ pub makes_quiet : {T : Type 0} (tag_of : Message → List ℕ) (expected expecte
 makes_quiet tag_of expected expected' old new engine engine' accesses stop leaves makes =
     makes_on tag_of expected' expected old old new engine engine engine' [] accesses stop leaves (makes_not tag_of expected' old engine) makes
 
+-- a bus made them
+pub accesses_of : {B T : Type 0} (bus_moved : B → List Access → B → Type 0) (tag_of : Message → List ℕ) (expected : List (ℕ × Counter) → Type 0) (bus bus' : B)
+    (old new : BusHistory) (engine engine' : TagEngineView T) (stop : Option MemStop) →
+    ((accesses : List Access) × bus_moved bus accesses bus' × Makes tag_of expected old engine new engine' accesses stop) →
+    MakesAccesses bus_moved tag_of bus engine bus' engine' stop
+accesses_of bus_moved tag_of expected bus bus' old new engine engine' stop makes = record {
+  accesses = makes.0;
+  moved = makes.1;
+  has = makes.2.has;
+}
+
 module _ {T : Type 0} (d n : T → List ℕ → List ℕ) where
   -- room was taken for its message first
   taken_room : (expected : List (ℕ × Counter) → Type 0) (old new : BusHistory) (engine engine' : TagEngineView T) (accesses : List Access) (stop : Option MemStop) (message : Message) →
@@ -56,26 +60,26 @@ module _ {T : Type 0} (d n : T → List ℕ → List ℕ) where
       Makes (tags_of d n engine) expected old engine new engine' accesses stop
   taken_room expected old new engine engine' accesses stop message is makes =
       let one : engine'.made ≡ engine.made ++ message ∷ [] = ap (λ (e : TagEngineView T). e.made) is in
-      let many : engine'.made ≡ engine.made ++ (makes.written ++ makes.unwritten) = makes.made in
-      let counted : length (makes.written ++ makes.unwritten) ≡ 1 =
-      omega (arith, ap length one, ap length many, length-append engine.made (message ∷ []), length-append engine.made (makes.written ++ makes.unwritten)) in
-      let room : engine'.room ≡ max engine.room 1 - length (makes.written ++ makes.unwritten) = makes.room in
+      let room : engine'.room ≡ max engine.room 1 - (length engine'.made - length engine.made) = makes.room in
       record {
         came = makes.came;
         bus_geometry = makes.bus_geometry;
-        written = makes.written;
-        unwritten = makes.unwritten;
-        made = many;
-        writes = makes.writes;
-        few = makes.few;
+        has = record {
+          written = makes.has.written;
+          unwritten = makes.has.unwritten;
+          made = makes.has.made;
+          writes = makes.has.writes;
+          few = makes.has.few;
+          inside = makes.has.inside;
+          shown = makes.has.shown;
+          tampered = makes.has.tampered;
+        };
         geometry = makes.geometry;
         tagger = makes.tagger;
-        room = omega (arith, room, counted);
+        room = omega (arith, room, ap length one, length-append engine.made (message ∷ []));
         checked = record {
           honest = makes.checked.honest;
           found = makes.checked.found;
-          shown = makes.checked.shown;
-          tampered = makes.checked.tampered;
           first = makes.checked.first;
         };
       }

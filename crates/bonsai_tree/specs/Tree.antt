@@ -18,7 +18,7 @@ use Rattle.bus_model.specs.BusHistory.{BusHistory}
 use Rattle.tag_engine.specs.TagEngine.{TagEngineView}
 use Rattle.checked_bus.specs.Steps.{unwritten_in}
 use Rattle.bonsai_tree.specs.Node.{CachedNode, block_or_zeros, current_of, no_block, no_tag, path_index, tag_in_slot, tag_of_last, times_made, unread_count}
-use Rattle.bonsai_tree.specs.NodeCache.{copied_nodes, node_copy, node_sets}
+use Rattle.bonsai_tree.specs.NodeCache.{copied_nodes, most_copies, node_copy, node_sets}
 
 -- the geometry, the root register, which has the tag that is kept of the top node, and the copies of nodes on the chip
 pub record TreeView : Type 0 where
@@ -37,6 +37,10 @@ IsMarked tree level index = option_map (λ copy. copy.changed) (cached_node tree
 -- the nodes of a level with a copy on the chip
 abbrev pub cached_nodes : TreeView → ℕ → List ℕ
 cached_nodes tree level = copied_nodes tree.caches level
+
+-- no level has more copies of nodes than its sets have ways
+abbrev pub HasFewNodes : TreeView → Type 0
+HasFewNodes tree = (level : ℕ) → length (cached_nodes tree level) ≤ most_copies
 
 -- the current block of a node: its copy on the chip, else that of its last message, else zeros
 abbrev pub current_block : TreeView → List Message → ℕ → ℕ → List ℕ

@@ -1,32 +1,28 @@
 // The tree, of which the chip keeps the root register and copies of nodes.
-ghost use Rattle.std.specs.Prelude.{true, ◌≡◌, ◌≢◌, ◌⊎◌, ◌+◌, ◌-◌, ◌*◌, ◌/◌, ◌<◌, ◌≤◌, ◌++◌, ◌∷◌, ℕ, List, [], None, Some, Ok, Err, IfOk, OnOk, OnErr, length};
+ghost use Rattle.std.specs.Prelude.{true, ◌≡◌, ◌≢◌, ◌⊎◌, ◌+◌, ◌-◌, ◌/◌, ◌<◌, ◌≤◌, ◌++◌, ◌∷◌, ℕ, List, [], None, Some, Ok, Err, IfOk, OnOk, OnErr, length};
 ghost use Rattle.std.specs.Result.{result_err};
-ghost use Rattle.sec_base.specs.Count.{Rose};
 ghost use Rattle.sec_base.specs.Geometry.{IsNode, page_count, parent, slot};
 ghost use Rattle.sec_base.specs.LastMessage.{last_node};
 ghost use Rattle.sec_base.specs.Place.{IsPlace};
-ghost use Rattle.sec_base.specs.declared.counter.Counter.{Counter};
-ghost use Rattle.sec_base.specs.Evidence.{evidence_place};
 ghost use Rattle.sec_base.specs.declared.evidence.Evidence.{Evidence};
 ghost use Rattle.sec_base.specs.declared.evidence.Evidence.TheVariants.{Collision};
 ghost use Rattle.sec_base.specs.declared.message.Message.{Message};
 ghost use Rattle.sec_base.specs.declared.message.Message.TheVariants.{Node};
 ghost use Rattle.sec_base.specs.declared.place.Place.{Place};
 ghost use Rattle.sec_base.specs.declared.place.Place.TheVariants.{Node as node_place};
-ghost use Rattle.sec_base.specs.declared.stop.MemStop.TheVariants.{Tampered, Spent, NoMemory as no_memory};
-ghost use Rattle.bus_model.specs.Access.{Access, Reaches};
+ghost use Rattle.sec_base.specs.declared.stop.MemStop.TheVariants.{Tampered};
+ghost use Rattle.bus_model.specs.Access.{Access};
 ghost use Rattle.bus_model.specs.BusHistory.{NothingWritten};
 ghost use Rattle.cache_set.specs.CacheSet.{HasRoom};
 ghost use Rattle.cache_set.specs.Cache.{set_at};
 ghost use Rattle.tag_engine.specs.TagEngine.{tags_of};
-ghost use Rattle.checked_bus.specs.Accesses.{WritesMessages};
 ghost use Rattle.checked_bus.specs.Makes.{Makes};
-ghost use Rattle.checked_bus.specs.Steps.{IsAccounted, Moves, SameLines, unwritten_in};
 ghost use Rattle.bonsai_tree.specs.KeptRead.{IsKeptNode, ReadsKept};
 ghost use Rattle.bonsai_tree.specs.Climb.{Climbs, IsBlockOf, IsVictim, MakesRoom, NoNode, WritesUp};
 ghost use Rattle.bonsai_tree.specs.Node.{CachedNode, block_or_zeros, level_blocks, no_tag, page_block, with_tag};
-ghost use Rattle.bonsai_tree.specs.NodeCache.{AreNodeCaches, IsLatestNode, OtherLevels, OtherNodes, level_cache, most_copies, node_way};
-ghost use Rattle.bonsai_tree.specs.Tree.{CameUnlessHeld, EndsQuietly, GoesOutFor, HoldsTree, IsFetchPlace, IsKept, IsMarked, IsReadByTag, IsNodeFrom, NodeCame, NodesAreMade, NodesHoldLast, PathWasRead, SamePages, SlotsAreTags, UnmadeAreUnread, WasReadUp, WritesBack, cached_node, cached_nodes, current_block, kept_tag, path_accesses, present_accesses, want_of};
+ghost use Rattle.bonsai_tree.specs.NodeCache.{AreNodeCaches, IsLatestNode, OtherLevels, OtherNodes, level_cache, node_way};
+ghost use Rattle.bonsai_tree.specs.TreeCall.{TreeCall};
+ghost use Rattle.bonsai_tree.specs.Tree.{EndsQuietly, GoesOutFor, HoldsTree, IsFetchPlace, IsKept, IsMarked, IsReadByTag, IsNodeFrom, NodeCame, PathWasRead, SamePages, cached_node, cached_nodes, current_block, kept_tag, present_accesses, want_of};
 
 use crate::node_cache::NodeCache;
 use crate::slots::{put_tag, slot_tag};
@@ -111,9 +107,9 @@ impl Tree {
         requires engine { tags.old.geometry ≡ self.old.geometry }
 
         ensures geometry { self.new.geometry ≡ self.old.geometry }
-        ensures root { self.new.root ≡ self.old.root }
-        ensures holds { HoldsTree (tags_of T.data_tag_of T.node_tag_of) self.old (B.history bus.old) tags.old →
-            result ≢ Err no_memory → HoldsTree (tags_of T.data_tag_of T.node_tag_of) self.new (B.history bus.new) tags.new }
+        // Tampering and evidence name the page's own place, or that of a node above level 0.
+        ensures called { TreeCall (tags_of T.data_tag_of T.node_tag_of) (IsFetchPlace self.old.geometry page)
+            self.old (B.history bus.old) tags.old self.new (B.history bus.new) tags.new (result_err result) }
 
         // It is the page's last block, or there is evidence. No page gets another block.
         ensures block { HoldsTree (tags_of T.data_tag_of T.node_tag_of) self.old (B.history bus.old) tags.old →
@@ -121,23 +117,10 @@ impl Tree {
         ensures pages { SamePages (B.history bus.old) tags.old.made (B.history bus.new) tags.new.made }
         ensures no_page { level_blocks 0 tags.new.made ≡ level_blocks 0 tags.old.made }
 
-        // A false answer is shown as evidence or taken for tampering.
-        ensures honest { (used : List (ℕ × Counter)) →
-            HoldsTree (tags_of T.data_tag_of T.node_tag_of) self.old (B.history bus.old) tags.old →
-            IsAccounted (tags_of T.data_tag_of T.node_tag_of tags.old) used tags.old.made (B.history bus.old) None tags.old.evidence →
-            IsAccounted (tags_of T.data_tag_of T.node_tag_of tags.old) used tags.new.made (B.history bus.new) (result_err result) tags.new.evidence }
+        // Evidence of the page's own block is of the one that is answered.
         ensures accepted { (made_at : ℕ) (bytes tag : List ℕ) → tags.old.evidence ≡ None →
             tags.new.evidence ≡ Some (Collision 0 page made_at bytes tag) →
             result ≡ Ok bytes }
-        ensures found { (evidence : Evidence) → tags.old.evidence ≡ None → tags.new.evidence ≡ Some evidence →
-            IsFetchPlace self.old.geometry page (evidence_place evidence) }
-        ensures shown { HoldsTree (tags_of T.data_tag_of T.node_tag_of) self.old (B.history bus.old) tags.old →
-            tags.old.evidence ≡ None → tags.new.evidence ≢ None → Rose (B.history bus.old).lies (B.history bus.new).lies }
-        ensures tampered { (place : Place) → result ≡ Err (Tampered place) →
-            HoldsTree (tags_of T.data_tag_of T.node_tag_of) self.old (B.history bus.old) tags.old →
-            tags.old.evidence ≡ None → Rose (B.history bus.old).lies (B.history bus.new).lies }
-        ensures at_place { (place : Place) → result ≡ Err (Tampered place) → IsFetchPlace self.old.geometry page place }
-        ensures unspent { (spent : ℕ) → result ≢ Err (Spent spent) }
 
         // Whatever was answered, it has the tag that is kept of it by the node above it, which has a copy; or it is zeros, and
         // none is kept.
@@ -150,59 +133,18 @@ impl Tree {
             (B.history bus.new).reads (node_place 0 other) ≡ (B.history bus.old).reads (node_place 0 other) }
 
         // Where there is no evidence, the nodes of its path were read, up to the lowest one with a copy, but those that were
-        // never made: none of these is read.
+        // never made.
         ensures read { HoldsTree (tags_of T.data_tag_of T.node_tag_of) self.old (B.history bus.old) tags.old →
             tags.new.evidence ≡ None → OnOk result (PathWasRead self.old tags.old.made 0 page (B.history bus.old) (B.history bus.new)) }
-        ensures unread { HoldsTree (tags_of T.data_tag_of T.node_tag_of) self.old (B.history bus.old) tags.old →
-            tags.new.evidence ≡ None → UnmadeAreUnread (B.history bus.old) tags.new.made (B.history bus.new) }
         ensures hit { cached_node self.old 1 (parent self.old.geometry 0 page).1 ≢ None →
             (B.history bus.new).accesses ≤ (B.history bus.old).accesses + 1 }
         ensures hit_made { cached_node self.old 1 (parent self.old.geometry 0 page).1 ≢ None → tags.new.made ≡ tags.old.made }
-        ensures once { (B.history bus.new).accesses ≤ (B.history bus.old).accesses + path_accesses self.old.geometry.levels }
-        ensures few { length tags.new.made ≤ length tags.old.made + path_accesses self.old.geometry.levels }
-        ensures room { tags.old.room ≤ tags.new.room + path_accesses self.old.geometry.levels }
-        ensures no_rise { tags.new.room ≤ tags.old.room }
-        ensures moves { Moves (B.history bus.old) tags.old (B.history bus.new) tags.new }
-        ensures lines { SameLines (B.history bus.old) tags.old.made (B.history bus.new) tags.new.made }
-        ensures moved { Reaches B.moved bus.old bus.new }
+
         // Its accesses, where the tree is expected to fit.
         ensures makes { (accesses : List Access) × B.moved bus.old accesses bus.new
             × Makes (tags_of T.data_tag_of T.node_tag_of tags.old)
             (λ used. HoldsTree (tags_of T.data_tag_of T.node_tag_of) self.old (B.history bus.old) tags.old)
             (B.history bus.old) tags.old (B.history bus.new) tags.new accesses (result_err result) }
-
-        // What has a copy on the chip was read, with the nodes above it, unless it had one or was never made before. Unless the call
-        // ran out of memory, it was also read where it went out with another block, and came again.
-        ensures few_copies { (level : ℕ) → length (cached_nodes self.new level) ≤ most_copies }
-        ensures new_copies { HoldsTree (tags_of T.data_tag_of T.node_tag_of) self.old (B.history bus.old) tags.old →
-            tags.new.evidence ≡ None → (level index : ℕ) → cached_node self.new level index ≢ None →
-            WasReadUp self.old tags.old.made level index (B.history bus.old) (B.history bus.new) }
-        ensures came { HoldsTree (tags_of T.data_tag_of T.node_tag_of) self.old (B.history bus.old) tags.old →
-            tags.new.evidence ≡ None → result ≢ Err no_memory →
-            CameUnlessHeld self.old (B.history bus.old) tags.old.made self.new (B.history bus.new) tags.new.made }
-
-        // Each time a node above level 0 was made, each of its slots had the tag of that child's last message, or zeros where the
-        // child was never made.
-        ensures slots { HoldsTree (tags_of T.data_tag_of T.node_tag_of) self.old (B.history bus.old) tags.old →
-            tags.new.evidence ≡ None → SlotsAreTags (tags_of T.data_tag_of T.node_tag_of tags.old) self.old.geometry tags.old.made →
-            SlotsAreTags (tags_of T.data_tag_of T.node_tag_of tags.old) self.old.geometry tags.new.made }
-        // What is made of a node above level 0 is a copy that was changed, unless a child of it was made in the call. Where there
-        // is no evidence, it is made once at most for each copy of it that was there before, was read in the call, or came unread
-        // since the node had never been made, and that is gone after it; out of memory, once more.
-        ensures written_back { WritesBack (EndsQuietly (tags_of T.data_tag_of T.node_tag_of) self.old (B.history bus.old) tags.old tags.new)
-            1 self.old (B.history bus.old) tags.old.made self.new (B.history bus.new) tags.new.made (result_err result) }
-        // Unless the call is refused, a copy is evicted only where another node of its set came: one is enough for both ways of
-        // the set.
-        ensures out_for { HoldsTree (tags_of T.data_tag_of T.node_tag_of) self.old (B.history bus.old) tags.old →
-            tags.new.evidence ≡ None → OnOk result (GoesOutFor self.old (B.history bus.old) tags.old.made self.new (B.history bus.new)) }
-
-        // What was made was written.
-        ensures made_blocks { NodesAreMade self.old.geometry tags.old.made (B.history bus.old).written →
-            NodesAreMade self.old.geometry tags.new.made (B.history bus.new).written }
-        ensures last_blocks { NodesHoldLast self.old.geometry tags.old.made (B.history bus.old).written →
-            result ≢ Err no_memory → NodesHoldLast self.old.geometry tags.new.made (B.history bus.new).written }
-        ensures writes { (more : List Message) → tags.new.made ≡ tags.old.made ++ more →
-            WritesMessages (B.history bus.old) (B.history bus.new) (length more) (unwritten_in (result_err result)) }
     {
         self.parent_present(bus, tags, 0, page)?;
         let tag = self.kept_tag(0, page);
@@ -224,9 +166,9 @@ impl Tree {
         requires engine { tags.old.geometry ≡ self.old.geometry }
 
         ensures geometry { self.new.geometry ≡ self.old.geometry }
-        ensures root { self.new.root ≡ self.old.root }
-        ensures holds { HoldsTree (tags_of T.data_tag_of T.node_tag_of) self.old (B.history bus.old) tags.old →
-            result ≢ Err no_memory → HoldsTree (tags_of T.data_tag_of T.node_tag_of) self.new (B.history bus.new) tags.new }
+        // Tampering and evidence name the place of a node above level 0.
+        ensures called { TreeCall (tags_of T.data_tag_of T.node_tag_of) (IsNodeFrom self.old.geometry 1)
+            self.old (B.history bus.old) tags.old self.new (B.history bus.new) tags.new (result_err result) }
 
         // The page's last block is the new one; where the call is refused, the old or the new one. No other page gets another.
         ensures block { OnOk result (last_node 0 page tags.new.made ≡ Some block.now) }
@@ -239,22 +181,9 @@ impl Tree {
         ensures one_at_most { (level_blocks 0 tags.new.made ≡ level_blocks 0 tags.old.made)
             ⊎ (level_blocks 0 tags.new.made ≡ level_blocks 0 tags.old.made ++ (page, block.now) ∷ []) }
 
-        // A false answer is shown as evidence or taken for tampering; then no page got another block.
-        ensures honest { (used : List (ℕ × Counter)) →
-            HoldsTree (tags_of T.data_tag_of T.node_tag_of) self.old (B.history bus.old) tags.old →
-            IsAccounted (tags_of T.data_tag_of T.node_tag_of tags.old) used tags.old.made (B.history bus.old) None tags.old.evidence →
-            IsAccounted (tags_of T.data_tag_of T.node_tag_of tags.old) used tags.new.made (B.history bus.new) (result_err result) tags.new.evidence }
-        ensures found { (evidence : Evidence) → tags.old.evidence ≡ None → tags.new.evidence ≡ Some evidence →
-            IsNodeFrom self.old.geometry 1 (evidence_place evidence) }
-        ensures shown { HoldsTree (tags_of T.data_tag_of T.node_tag_of) self.old (B.history bus.old) tags.old →
-            tags.old.evidence ≡ None → tags.new.evidence ≢ None → Rose (B.history bus.old).lies (B.history bus.new).lies }
-        ensures tampered { (place : Place) → result ≡ Err (Tampered place) →
-            HoldsTree (tags_of T.data_tag_of T.node_tag_of) self.old (B.history bus.old) tags.old →
-            tags.old.evidence ≡ None → Rose (B.history bus.old).lies (B.history bus.new).lies }
-        ensures at_place { (place : Place) → result ≡ Err (Tampered place) → IsNodeFrom self.old.geometry 1 place }
+        // Where a node is taken for tampered, no page got another block.
         ensures pages { (place : Place) → result ≡ Err (Tampered place) →
             SamePages (B.history bus.old) tags.old.made (B.history bus.new) tags.new.made }
-        ensures unspent { (spent : ℕ) → result ≢ Err (Spent spent) }
 
         // The node above the page's block keeps its tag: it has a copy then, marked as changed.
         ensures parent { OnOk result (IsMarked self.new 1 (parent self.old.geometry 0 page).1) }
@@ -264,60 +193,19 @@ impl Tree {
             (B.history bus.new).reads (node_place 0 other) ≡ (B.history bus.old).reads (node_place 0 other) }
 
         // Where there is no evidence, the nodes above it were read, up to the lowest one with a copy, but those that were never
-        // made: none of these is read.
+        // made.
         ensures read { HoldsTree (tags_of T.data_tag_of T.node_tag_of) self.old (B.history bus.old) tags.old →
             tags.new.evidence ≡ None → OnOk result (PathWasRead self.old tags.old.made 1 page (B.history bus.old) (B.history bus.new)) }
-        ensures unread { HoldsTree (tags_of T.data_tag_of T.node_tag_of) self.old (B.history bus.old) tags.old →
-            tags.new.evidence ≡ None → UnmadeAreUnread (B.history bus.old) tags.new.made (B.history bus.new) }
         ensures hit { cached_node self.old 1 (parent self.old.geometry 0 page).1 ≢ None →
             (B.history bus.new).accesses ≤ (B.history bus.old).accesses + 1 }
         ensures hit_made { cached_node self.old 1 (parent self.old.geometry 0 page).1 ≢ None →
             (tags.new.made ≡ tags.old.made) ⊎ (tags.new.made ≡ tags.old.made ++ Node 0 page block.now ∷ []) }
-        ensures once { (B.history bus.new).accesses ≤ (B.history bus.old).accesses + path_accesses self.old.geometry.levels }
-        ensures few { length tags.new.made ≤ length tags.old.made + path_accesses self.old.geometry.levels }
-        ensures room { tags.old.room ≤ tags.new.room + path_accesses self.old.geometry.levels }
-        ensures no_rise { tags.new.room ≤ tags.old.room }
-        ensures moves { Moves (B.history bus.old) tags.old (B.history bus.new) tags.new }
-        ensures lines { SameLines (B.history bus.old) tags.old.made (B.history bus.new) tags.new.made }
-        ensures moved { Reaches B.moved bus.old bus.new }
+
         // Its accesses, where the tree is expected to fit.
         ensures makes { (accesses : List Access) × B.moved bus.old accesses bus.new
             × Makes (tags_of T.data_tag_of T.node_tag_of tags.old)
             (λ used. HoldsTree (tags_of T.data_tag_of T.node_tag_of) self.old (B.history bus.old) tags.old)
             (B.history bus.old) tags.old (B.history bus.new) tags.new accesses (result_err result) }
-
-        // What has a copy on the chip was read, with the nodes above it, unless it had one or was never made before. Unless the call
-        // ran out of memory, it was also read where it went out with another block, and came again.
-        ensures few_copies { (level : ℕ) → length (cached_nodes self.new level) ≤ most_copies }
-        ensures new_copies { HoldsTree (tags_of T.data_tag_of T.node_tag_of) self.old (B.history bus.old) tags.old →
-            tags.new.evidence ≡ None → (level index : ℕ) → cached_node self.new level index ≢ None →
-            WasReadUp self.old tags.old.made level index (B.history bus.old) (B.history bus.new) }
-        ensures came { HoldsTree (tags_of T.data_tag_of T.node_tag_of) self.old (B.history bus.old) tags.old →
-            tags.new.evidence ≡ None → result ≢ Err no_memory →
-            CameUnlessHeld self.old (B.history bus.old) tags.old.made self.new (B.history bus.new) tags.new.made }
-
-        // Each time a node above level 0 was made, each of its slots had the tag of that child's last message, or zeros where the
-        // child was never made.
-        ensures slots { HoldsTree (tags_of T.data_tag_of T.node_tag_of) self.old (B.history bus.old) tags.old →
-            tags.new.evidence ≡ None → SlotsAreTags (tags_of T.data_tag_of T.node_tag_of tags.old) self.old.geometry tags.old.made →
-            SlotsAreTags (tags_of T.data_tag_of T.node_tag_of tags.old) self.old.geometry tags.new.made }
-        // What is made of a node above level 0 is a copy that was changed, unless a child of it was made in the call. Where there
-        // is no evidence, it is made once at most for each copy of it that was there before, was read in the call, or came unread
-        // since the node had never been made, and that is gone after it; out of memory, once more.
-        ensures written_back { WritesBack (EndsQuietly (tags_of T.data_tag_of T.node_tag_of) self.old (B.history bus.old) tags.old tags.new)
-            1 self.old (B.history bus.old) tags.old.made self.new (B.history bus.new) tags.new.made (result_err result) }
-        // Unless the call is refused, a copy is evicted only where another node of its set came: one is enough for both ways of
-        // the set.
-        ensures out_for { HoldsTree (tags_of T.data_tag_of T.node_tag_of) self.old (B.history bus.old) tags.old →
-            tags.new.evidence ≡ None → OnOk result (GoesOutFor self.old (B.history bus.old) tags.old.made self.new (B.history bus.new)) }
-
-        // What was made was written.
-        ensures made_blocks { NodesAreMade self.old.geometry tags.old.made (B.history bus.old).written →
-            NodesAreMade self.old.geometry tags.new.made (B.history bus.new).written }
-        ensures last_blocks { NodesHoldLast self.old.geometry tags.old.made (B.history bus.old).written →
-            result ≢ Err no_memory → NodesHoldLast self.old.geometry tags.new.made (B.history bus.new).written }
-        ensures writes { (more : List Message) → tags.new.made ≡ tags.old.made ++ more →
-            WritesMessages (B.history bus.old) (B.history bus.new) (length more) (unwritten_in (result_err result)) }
     {
         self.parent_present(bus, tags, 0, page)?;
         self.write_below(bus, tags, 0, page, block)?;
@@ -349,7 +237,6 @@ impl Tree {
         ensures latest { OnOk result (IsLatestNode self.new.caches level index) }
         ensures out_for { HoldsTree (tags_of T.data_tag_of T.node_tag_of) self.old (B.history bus.old) tags.old →
             tags.new.evidence ≡ None → OnOk result (GoesOutFor self.old (B.history bus.old) tags.old.made self.new (B.history bus.new)) }
-        ensures moved { Reaches B.moved bus.old bus.new }
         ensures makes { (accesses : List Access) × B.moved bus.old accesses bus.new
             × Makes (tags_of T.data_tag_of T.node_tag_of tags.old)
             (λ used. HoldsTree (tags_of T.data_tag_of T.node_tag_of) self.old (B.history bus.old) tags.old)
@@ -389,7 +276,6 @@ impl Tree {
         ensures room { OnOk result (HasRoom (set_at (level_cache self.new.caches level) index)) }
         ensures out_for { HoldsTree (tags_of T.data_tag_of T.node_tag_of) self.old (B.history bus.old) tags.old →
             tags.new.evidence ≡ None → OnOk result (MakesRoom level index self.old (B.history bus.old) tags.old.made self.new (B.history bus.new)) }
-        ensures moved { Reaches B.moved bus.old bus.new }
         ensures makes { (accesses : List Access) × B.moved bus.old accesses bus.new
             × Makes (tags_of T.data_tag_of T.node_tag_of tags.old)
             (λ used. HoldsTree (tags_of T.data_tag_of T.node_tag_of) self.old (B.history bus.old) tags.old)
@@ -433,7 +319,6 @@ impl Tree {
             tags.new.evidence ≡ None → OnOk result (GoesOutFor self.old (B.history bus.old) tags.old.made self.new (B.history bus.new)) }
         ensures last { OnOk result (HoldsTree (tags_of T.data_tag_of T.node_tag_of) self.new (B.history bus.new) tags.new →
             tags.new.evidence ≡ None → victim.now.copy ≡ block_or_zeros (last_node level victim.now.place tags.new.made)) }
-        ensures moved { Reaches B.moved bus.old bus.new }
         ensures makes { (accesses : List Access) × B.moved bus.old accesses bus.new
             × Makes (tags_of T.data_tag_of T.node_tag_of tags.old)
             (λ used. HoldsTree (tags_of T.data_tag_of T.node_tag_of) self.old (B.history bus.old) tags.old)
@@ -474,7 +359,6 @@ impl Tree {
             tags.new.evidence ≡ None → OnOk result (GoesOutFor self.old (B.history bus.old) tags.old.made self.new (B.history bus.new)) }
         ensures some { 0 < self.old.geometry.levels }
         ensures nodes { AreNodeCaches self.new.geometry self.new.caches }
-        ensures moved { Reaches B.moved bus.old bus.new }
         ensures makes { (accesses : List Access) × B.moved bus.old accesses bus.new
             × Makes (tags_of T.data_tag_of T.node_tag_of tags.old)
             (λ used. HoldsTree (tags_of T.data_tag_of T.node_tag_of) self.old (B.history bus.old) tags.old)
@@ -514,7 +398,6 @@ impl Tree {
         ensures came { HoldsTree (tags_of T.data_tag_of T.node_tag_of) self.old (B.history bus.old) tags.old →
             tags.new.evidence ≡ None → OnOk result (NodeCame tags.old.made level index (B.history bus.old) (B.history bus.new)) }
         ensures kept { (other at : ℕ) → cached_node self.old other at ≢ None → cached_node self.new other at ≢ None }
-        ensures moved { Reaches B.moved bus.old bus.new }
         ensures makes { (accesses : List Access) × B.moved bus.old accesses bus.new
             × Makes (tags_of T.data_tag_of T.node_tag_of tags.old)
             (λ used. HoldsTree (tags_of T.data_tag_of T.node_tag_of) self.old (B.history bus.old) tags.old)
@@ -562,7 +445,6 @@ impl Tree {
             (B.history bus.new).written (node_place level at) ≡ (B.history bus.old).written (node_place level at) }
         ensures quiet { tags.new.evidence ≡ tags.old.evidence }
         ensures reads { (B.history bus.new).reads ≡ (B.history bus.old).reads }
-        ensures moved { Reaches B.moved bus.old bus.new }
         ensures makes { (accesses : List Access) × B.moved bus.old accesses bus.new
             × Makes (tags_of T.data_tag_of T.node_tag_of tags.old)
             (λ used. Unit {0})
@@ -628,7 +510,6 @@ fn read_kept<B: Bus, T: Tagger>(
 
     ensures read { ReadsKept (tags_of T.data_tag_of T.node_tag_of) level index tag.now
         (B.history bus.old) tags.old (B.history bus.new) tags.new result }
-    ensures moved { Reaches B.moved bus.old bus.new }
     ensures makes { (accesses : List Access) × B.moved bus.old accesses bus.new
         × Makes (tags_of T.data_tag_of T.node_tag_of tags.old)
         (λ used. IsKeptNode (tags_of T.data_tag_of T.node_tag_of tags.old) tags.old.made

@@ -5,57 +5,30 @@ use Rattle.std.proofs.lemmas.Bool.{cases_eq}
 use Rattle.sec_base.specs.Count.{Rose, RoseBy}
 use Rattle.sec_base.specs.Evidence.{evidence_place}
 use Rattle.sec_base.specs.LastMessage.{last_node}
-use Rattle.sec_base.specs.declared.counter.Counter.{Counter}
 use Rattle.sec_base.specs.declared.evidence.Evidence.{Evidence}
 use Rattle.sec_base.specs.declared.message.Message.{Message}
 use Rattle.sec_base.specs.declared.place.Place.{Place}
 use Rattle.sec_base.specs.declared.place.Place.TheVariants.{Node as node_place}
 use Rattle.sec_base.specs.declared.stop.MemStop.{MemStop}
-use Rattle.sec_base.specs.declared.stop.MemStop.TheVariants.{Tampered, Spent, NoMemory}
+use Rattle.sec_base.specs.declared.stop.MemStop.TheVariants.{NoMemory}
 use Rattle.sec_base.proofs.Results.{was_none, some_or_none}
 use Rattle.bus_model.specs.BusHistory.{BusHistory}
 use Rattle.tag_engine.specs.TagEngine.{TagEngineView, tags_of}
 use Rattle.checked_bus.specs.Accesses.{WritesMessages}
-use Rattle.checked_bus.specs.Steps.{IsAccounted, Moves, SameLines, unwritten_in}
+use Rattle.checked_bus.specs.Steps.{IsAccounted, Moves, unwritten_in}
 use Rattle.checked_bus.proofs.Steps.{moves_not, moves_on, same_lines_not, same_lines_on}
 use Rattle.checked_bus.proofs.Writes.{writes_on}
 use Rattle.split_counter.specs.CounterBlock.{block_of}
 use Rattle.bonsai_tree.specs.Node.{CachedNode, block_or_zeros, current_of, page_block, path_index}
-use Rattle.bonsai_tree.specs.Tree.{CameUnlessHeld, HoldsTree, IsFetchPlace, IsNodeFrom, NodeCame, NodesAreMade, NodesHoldLast, PathWasRead, SlotsAreTags, TreeView, UnmadeAreUnread, WasReadUp, above, cached_node}
+use Rattle.bonsai_tree.specs.TreeCall.{TreeCall}
+use Rattle.bonsai_tree.specs.Tree.{HasFewNodes, HoldsTree, IsFetchPlace, IsNodeFrom, NodeCame, NodesAreMade, NodesHoldLast, PathWasRead, SlotsAreTags, TreeView, WasReadUp, above, cached_node}
 use Rattle.bonsai_tree.proofs.Climbs.{came_after, came_before, read_up_held, read_up_on, unchanged_writes, unless_held_on, unmade_before}
 use Rattle.bonsai_tree.proofs.Nodes.{same_tags, some_not_none}
 use Rattle.bonsai_tree.proofs.PathCalls.{not_from_one}
-use Rattle.counter_cache.specs.Counters.{AreBlocks, CameFrom, CountersView, HasFewNodes, HoldsCounters, SameCounters, cached_block, cached_pages, counters_in, current_page}
+use Rattle.counter_cache.specs.Counters.{AreBlocks, CameFrom, CountersView, HoldsCounters, SameCounters, cached_block, cached_pages, counters_in, current_page}
 use Rattle.counter_cache.specs.Having.{Has}
 use Rattle.counter_cache.proofs.BlockCopies.{cached_held, held_cached}
 use Rattle.sec_base.specs.Geometry.{GeometryView}
-
--- What a call of the tree says.
-pub record TreeCall {T : Type 0} (tags : TagEngineView T → Message → List ℕ) (Where : Place → Type 0) (tree : TreeView) (old : BusHistory)
-    (engine : TagEngineView T) (tree' : TreeView) (new : BusHistory) (engine' : TagEngineView T) (stop : Option MemStop) : Type 0 where
-  pub moves : Moves old engine new engine'
-  pub lines : SameLines old engine.made new engine'.made
-  pub geometry : tree'.geometry ≡ tree.geometry
-  pub root : tree'.root ≡ tree.root
-  pub few_nodes : HasFewNodes tree'
-  pub holds : HoldsTree tags tree old engine → stop ≢ Some NoMemory → HoldsTree tags tree' new engine'
-  pub honest : HoldsTree tags tree old engine → (used : List (ℕ × Counter)) →
-      IsAccounted (tags engine) used engine.made old None engine.evidence →
-      IsAccounted (tags engine) used engine'.made new stop engine'.evidence
-  pub lied : HoldsTree tags tree old engine → engine.evidence ≡ None → (place : Place) → stop ≡ Some (Tampered place) → Rose old.lies new.lies
-  pub shown : HoldsTree tags tree old engine → engine.evidence ≡ None → engine'.evidence ≢ None → Rose old.lies new.lies
-  pub tampered : (place : Place) → stop ≡ Some (Tampered place) → Where place
-  pub found : engine.evidence ≡ None → (evidence : Evidence) → engine'.evidence ≡ Some evidence → Where (evidence_place evidence)
-  pub unspent : (spent : ℕ) → stop ≢ Some (Spent spent)
-  pub writes : (more : List Message) → engine'.made ≡ engine.made ++ more → WritesMessages old new (length more) (unwritten_in stop)
-  pub made_blocks : NodesAreMade tree.geometry engine.made old.written → NodesAreMade tree.geometry engine'.made new.written
-  pub last_blocks : stop ≢ Some NoMemory → NodesHoldLast tree.geometry engine.made old.written → NodesHoldLast tree.geometry engine'.made new.written
-  pub slots : HoldsTree tags tree old engine → engine'.evidence ≡ None → SlotsAreTags (tags engine) tree.geometry engine.made →
-      SlotsAreTags (tags engine) tree.geometry engine'.made
-  pub read : HoldsTree tags tree old engine → engine'.evidence ≡ None → (level index : ℕ) → cached_node tree' level index ≢ None →
-      WasReadUp tree engine.made level index old new
-  pub came : HoldsTree tags tree old engine → engine'.evidence ≡ None → stop ≢ Some NoMemory → CameUnlessHeld tree old engine.made tree' new engine'.made
-  pub unread : HoldsTree tags tree old engine → engine'.evidence ≡ None → UnmadeAreUnread old engine'.made new
 
 -- the page has no copy that was changed
 abbrev pub IsUnchanged : CountersView → ℕ → Type 0

@@ -1,5 +1,5 @@
 -- What contracts see of the counters of all pages: the tree over their counter blocks, and the copies of counter blocks.
-use Rattle.std.specs.Prelude.{◌≡◌, ◌≢◌, ◌⊎◌, ℕ, ◌*◌, ◌<◌, ◌≤◌, List, [], ◌∷◌, ◌++◌, length, true, false, Option, Some, None}
+use Rattle.std.specs.Prelude.{◌≡◌, ◌≢◌, ◌⊎◌, ℕ, ◌*◌, ◌<◌, List, [], ◌∷◌, ◌++◌, length, true, false, Option, Some, None}
 use Rattle.std.specs.Option.{option_map}
 use Rattle.sec_base.specs.Geometry.{GeometryView, page_count}
 use Rattle.sec_base.specs.LastMessage.{last_node}
@@ -12,8 +12,8 @@ use Rattle.bus_model.specs.BusHistory.{BusHistory}
 use Rattle.tag_engine.specs.TagEngine.{TagEngineView}
 use Rattle.split_counter.specs.CounterBlock.{CounterBlockView, block_of}
 use Rattle.bonsai_tree.specs.Node.{CachedNode, current_of, level_blocks, page_block}
-use Rattle.bonsai_tree.specs.NodeCache.{copy_of, most_copies}
-use Rattle.bonsai_tree.specs.Tree.{HoldsTree, IsKept, NodeCame, TreeView, cached_nodes, path_accesses}
+use Rattle.bonsai_tree.specs.NodeCache.{copy_of}
+use Rattle.bonsai_tree.specs.Tree.{HasFewNodes, HoldsTree, IsKept, NodeCame, TreeView, path_accesses}
 
 -- how many sets of two ways there are, and how many copies at most
 abbrev pub block_sets : ℕ
@@ -65,10 +65,6 @@ pub record LeavingIsMade (counters : CountersView) (page : ℕ) (made made' : Li
 -- none was made, or that one
 abbrev pub OnlyLeavingIsMade : CountersView → ℕ → List Message → List Message → Type 0
 OnlyLeavingIsMade counters page made made' = (level_blocks 0 made' ≡ level_blocks 0 made) ⊎ LeavingIsMade counters page made made'
-
--- no level has more copies of nodes than its sets have ways
-abbrev pub HasFewNodes : TreeView → Type 0
-HasFewNodes tree = (level : ℕ) → length (cached_nodes tree level) ≤ most_copies
 
 -- Each copy is of a page's block, and whole.
 pub record AreBlocks (geometry : GeometryView) (blocks : List (List Way)) : Type 0 where

@@ -14,8 +14,8 @@ use Rattle.bus_model.specs.BusHistory.{BusHistory}
 use Rattle.tag_engine.specs.TagEngine.{TagEngineView}
 use Rattle.checked_bus.specs.Accesses.{WritesMessages}
 use Rattle.checked_bus.specs.Steps.{IsAccounted, Moves, SameLines, unwritten_in}
-use Rattle.bonsai_tree.specs.Tree.{CameUnlessHeld, NodesAreMade, NodesHoldLast, SlotsAreTags, UnmadeAreUnread, WasReadUp, cached_node}
-use Rattle.counter_cache.specs.Counters.{AreBlocks, CameFrom, CountersView, HasFewNodes, HoldsCounters, SameCounters, cached_block}
+use Rattle.bonsai_tree.specs.Tree.{CameUnlessHeld, HasFewNodes, NodesAreMade, NodesHoldLast, SlotsAreTags, UnmadeAreUnread, WasReadUp, cached_node}
+use Rattle.counter_cache.specs.Counters.{AreBlocks, CameFrom, CountersView, HoldsCounters, SameCounters, cached_block}
 
 -- The places that tampering and evidence may name are among these.
 pub record Has {T : Type 0} (tags : TagEngineView T → Message → List ℕ) (Where : Place → Type 0) (counters : CountersView) (old : BusHistory)

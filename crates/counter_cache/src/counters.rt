@@ -6,12 +6,12 @@ ghost use Rattle.sec_base.specs.LastMessage.{last_node};
 ghost use Rattle.sec_base.specs.declared.counter.Counter.{Counter};
 ghost use Rattle.sec_base.specs.declared.evidence.Evidence.TheVariants.{Collision};
 ghost use Rattle.sec_base.specs.declared.place.Place.TheVariants.{Node as node_place};
-ghost use Rattle.bus_model.specs.Access.{Reaches};
 ghost use Rattle.bus_model.specs.BusHistory.{NothingWritten};
 ghost use Rattle.cache_set.specs.CacheSet.{HasRoom};
 ghost use Rattle.cache_set.specs.Bringing.{with_room};
 ghost use Rattle.cache_set.specs.Cache.{IsLatest, set_at, way_at};
 ghost use Rattle.tag_engine.specs.TagEngine.{tags_of};
+ghost use Rattle.checked_bus.specs.Makes.{MakesAccesses};
 ghost use Rattle.split_counter.specs.declared.bumped.Bumped.TheVariants.{Line, Page, Spent};
 ghost use Rattle.split_counter.specs.CounterBlock.{IsCounterBlock, bumped, new_block};
 ghost use Rattle.bonsai_tree.specs.Node.{level_blocks, no_tag, page_block};
@@ -97,7 +97,8 @@ impl Counters {
             self.old (B.history bus.old) tags.old self.new (B.history bus.new) tags.new page (result_err result) }
         ensures answer { IfOk result (λ block. block ≡ counters_in self.new tags.new.made page) }
         ensures is_block { IfOk result IsCounterBlock }
-        ensures moved { Reaches B.moved bus.old bus.new }
+        ensures accesses { MakesAccesses B.moved (tags_of T.data_tag_of T.node_tag_of tags.old)
+            bus.old tags.old bus.new tags.new (result_err result) }
     {
         self.bring(bus, tags, page)?;
         Ok(CounterBlock::from_bytes(self.blocks.latest(page)))
@@ -122,7 +123,8 @@ impl Counters {
         ensures bumped { IsBumped (tags_of T.data_tag_of T.node_tag_of)
             self.old (B.history bus.old) tags.old self.new (B.history bus.new) tags.new page place limit result }
         ensures copies { AreCopies self.new }
-        ensures moved { Reaches B.moved bus.old bus.new }
+        ensures accesses { MakesAccesses B.moved (tags_of T.data_tag_of T.node_tag_of tags.old)
+            bus.old tags.old bus.new tags.new (result_err result) }
         ensures line { (counter : Counter) → result ≡ Ok (Line counter) → IsLineCounter counter }
         ensures overflow { (next : ℕ) → result ≡ Ok (Page next) → (0 < next) × (next ≤ limit) }
     {
@@ -188,7 +190,8 @@ impl Counters {
         ensures once_clean { LeavesClean self.old page →
             (B.history bus.new).accesses ≤ (B.history bus.old).accesses + path_accesses self.old.tree.geometry.levels }
         ensures written { OnlyLeavingIsMade self.old page tags.old.made tags.new.made }
-        ensures moved { Reaches B.moved bus.old bus.new }
+        ensures accesses { MakesAccesses B.moved (tags_of T.data_tag_of T.node_tag_of tags.old)
+            bus.old tags.old bus.new tags.new (result_err result) }
     {
         if self.blocks.touch(page) {
             return Ok(());
@@ -226,7 +229,8 @@ impl Counters {
             (B.history bus.new).reads (node_place 0 other) ≡ (B.history bus.old).reads (node_place 0 other) }
         ensures idle { LeavesClean self.old page → (B.history bus.new).accesses ≡ (B.history bus.old).accesses }
         ensures written { OnlyLeavingIsMade self.old page tags.old.made tags.new.made }
-        ensures moved { Reaches B.moved bus.old bus.new }
+        ensures accesses { MakesAccesses B.moved (tags_of T.data_tag_of T.node_tag_of tags.old)
+            bus.old tags.old bus.new tags.new (result_err result) }
     {
         let Some(victim) = self.blocks.victim(page) else {
             return Ok(());
@@ -263,7 +267,8 @@ impl Counters {
         ensures idle { victim.now.changed ≡ false → (B.history bus.new).accesses ≡ (B.history bus.old).accesses }
         ensures written { (level_blocks 0 tags.new.made ≡ level_blocks 0 tags.old.made) ⊎ ((victim.now.changed ≡ true)
             × (level_blocks 0 tags.new.made ≡ level_blocks 0 tags.old.made ++ (victim.now.place, victim.now.copy) ∷ [])) }
-        ensures moved { Reaches B.moved bus.old bus.new }
+        ensures accesses { MakesAccesses B.moved (tags_of T.data_tag_of T.node_tag_of tags.old)
+            bus.old tags.old bus.new tags.new (result_err result) }
     {
         if !victim.changed {
             return Ok(());

@@ -1,5 +1,4 @@
 use Rattle.std.proofs.Common.{◌≡◌, ◌≢◌, rules, []}
-use Rattle.bus_model.specs.Access.{reaches_none}
 use Rattle.std.specs.Result.{result_err}
 use Rattle.tag_engine.specs.TagEngine.{tags_of}
 use Rattle.checked_bus.proofs.Makes.{makes_not}
@@ -21,10 +20,6 @@ pub returns-then-eq-clause-read : goal.returns-then-eq-clause-read
 returns-then-eq-clause-read g c =
     let none : c.args.tag.now ≡ no_tag = search rules in
     reads_none g.T.Tagger.data_tag_of g.T.Tagger.node_tag_of c.args.level c.args.index c.args.tag.now (g.B.Bus.history c.args.bus.now) c.args.tags.now none
-
-pub returns-then-eq-clause-moved : goal.returns-then-eq-clause-moved
-returns-then-eq-clause-moved g c =
-    (reaches_none g.B.Bus.moved g.met.B.Bus.unmoved) c.args.bus.now
 
 pub returns-then-eq-clause-makes : goal.returns-then-eq-clause-makes
 returns-then-eq-clause-makes g c =

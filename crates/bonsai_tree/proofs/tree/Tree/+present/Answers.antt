@@ -6,7 +6,6 @@ use Rattle.sec_base.specs.declared.stop.MemStop.TheVariants.{NoMemory}
 use Rattle.sec_base.proofs.Results.{was_none}
 use Rattle.cache_set.specs.declared.way.Way.{Way}
 use Rattle.cache_set.specs.Cache.{way_at}
-use Rattle.bus_model.specs.Access.{reaches_on, reaches_none}
 use Rattle.tag_engine.specs.TagEngine.{tags_of}
 use Rattle.checked_bus.specs.Makes.{Makes}
 use Rattle.checked_bus.proofs.Makes.{makes_not}
@@ -135,25 +134,8 @@ present-returns-clause-few g t c =
     present_second c.args.self.now.geometry c.touch.new.self.geometry c.make_room.new.self.geometry c.args.level (length c.args.tags.now.made) (length c.make_room.new.tags.made) (length c.parent_present.new.tags.made) (length c.read_in.new.tags.made) c.requires.node.0
     (geometry_as c.args.self.now c.self.inside.root c.self.inside.nodes c.touch.new.self c.self.view_is c.if-touch.ensures.geometry) (c.in_ok-make_room.ensures.climbs.geometry ∙ (geometry_as c.args.self.now c.self.inside.root c.self.inside.nodes c.touch.new.self c.self.view_is c.if-touch.ensures.geometry)) c.in_ok-make_room.ensures.few c.in_ok-parent_present.ensures.few c.read_in.ensures.few
 
-pub present-returns-clause-moved : goal.present-returns-clause-moved
-present-returns-clause-moved g t c =
-    (reaches_on g.B.Bus.moved g.met.B.Bus.moved_on) c.args.bus.now c.make_room.new.bus c.read_in.new.bus c.in_ok-make_room.ensures.moved
-    ((reaches_on g.B.Bus.moved g.met.B.Bus.moved_on) c.make_room.new.bus c.parent_present.new.bus c.read_in.new.bus c.in_ok-parent_present.ensures.moved c.read_in.ensures.moved)
-
-pub present-returns-in_err-parent_present-clause-moved : goal.present-returns-in_err-parent_present-clause-moved
-present-returns-in_err-parent_present-clause-moved g t c =
-    (reaches_on g.B.Bus.moved g.met.B.Bus.moved_on) c.args.bus.now c.make_room.new.bus c.parent_present.new.bus c.in_ok-make_room.ensures.moved c.in_err-parent_present.ensures.moved
-
 pub write_back-returns-then-not-victim-clause-climbs : goal.write_back-returns-then-not-victim-clause-climbs
 write_back-returns-then-not-victim-clause-climbs g t c = climbs_not g.T.Tagger.data_tag_of g.T.Tagger.node_tag_of c.args.level c.args.self.now (g.B.Bus.history c.args.bus.now) c.args.tags.now
-
-pub write_back-returns-in_err-write_below-clause-moved : goal.write_back-returns-in_err-write_below-clause-moved
-write_back-returns-in_err-write_below-clause-moved g t c =
-    (reaches_on g.B.Bus.moved g.met.B.Bus.moved_on) c.args.bus.now c.parent_present.new.bus c.write_below.new.bus c.in_ok-parent_present.ensures.moved c.in_err-write_below.ensures.moved
-
-pub write_back-returns-clause-moved : goal.write_back-returns-clause-moved
-write_back-returns-clause-moved g t c =
-    (reaches_on g.B.Bus.moved g.met.B.Bus.moved_on) c.args.bus.now c.parent_present.new.bus c.write_below.new.bus c.in_ok-parent_present.ensures.moved c.in_ok-write_below.ensures.moved
 
 pub make_room-returns-clause-climbs : goal.make_room-returns-clause-climbs
 make_room-returns-clause-climbs g t c =
@@ -399,24 +381,6 @@ present-returns-clause-out_for g t c = λ holds quiet.
     room.moves.reads parent.moves.reads c.read_in.ensures.climbs.moves.reads unmade
     (λ other at none. unmade other at (unmade_before c.make_room.new.tags.made c.parent_present.new.tags.made parent.moves.more parent.moves.made other at none))
     (c.in_ok-make_room.ensures.out_for holds_touched quiet_room) (c.in_ok-parent_present.ensures.out_for holds_room quiet_parent) c.read_in.ensures.kept)
-
--- No access was made
-
-pub present-returns-then-touch-clause-moved : goal.present-returns-then-touch-clause-moved
-present-returns-then-touch-clause-moved g t c =
-    (reaches_none g.B.Bus.moved g.met.B.Bus.unmoved) c.args.bus.now
-
-pub make_room-returns-in_default-clause-moved : goal.make_room-returns-in_default-clause-moved
-make_room-returns-in_default-clause-moved g t c =
-    (reaches_none g.B.Bus.moved g.met.B.Bus.unmoved) c.args.bus.now
-
-pub write_back-returns-then-not-victim-clause-moved : goal.write_back-returns-then-not-victim-clause-moved
-write_back-returns-then-not-victim-clause-moved g t c =
-    (reaches_none g.B.Bus.moved g.met.B.Bus.unmoved) c.args.bus.now
-
-pub parent_present-returns-then-level-levels-clause-moved : goal.parent_present-returns-then-level-levels-clause-moved
-parent_present-returns-then-level-levels-clause-moved g t c =
-    (reaches_none g.B.Bus.moved g.met.B.Bus.unmoved) c.args.bus.now
 
 -- Which accesses they make
 

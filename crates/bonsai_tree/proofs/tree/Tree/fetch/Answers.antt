@@ -1,27 +1,25 @@
-use Rattle.std.proofs.Common.{◌≡◌, ◌+◌, ◌/◌, ◌≤◌, List, length, Option, Some, refl, ap, sym, ◌∙◌, subst, arith, rules, ◌++◌}
+use Rattle.std.proofs.Common.{inl, inr, None, ◌≡◌, ◌+◌, ◌/◌, ◌≤◌, List, length, Option, Some, refl, ap, sym, ◌∙◌, subst, arith, rules, ◌++◌}
 use Rattle.std.specs.Result.{result_err}
 use Rattle.sec_base.specs.Geometry.{GeometryView, IsNode, arity}
 use Rattle.sec_base.specs.declared.evidence.Evidence.TheVariants.{Collision}
 use Rattle.sec_base.specs.declared.message.Message.{Message}
 use Rattle.sec_base.specs.declared.place.Place.TheVariants.{Node as node_place}
 use Rattle.sec_base.specs.declared.stop.MemStop.{MemStop}
-use Rattle.sec_base.specs.declared.stop.MemStop.TheVariants.{NoMemory, Tampered}
+use Rattle.sec_base.specs.declared.stop.MemStop.TheVariants.{Tampered}
 use Rattle.sec_base.proofs.Results.{stop_is, was_none}
 use Rattle.bus_model.specs.BusHistory.{BusHistory}
 use Rattle.tag_engine.specs.TagEngine.{TagEngineView, tags_of}
-use Rattle.checked_bus.specs.Accesses.{WritesMessages}
-use Rattle.checked_bus.specs.Steps.{unwritten_in}
 use Rattle.checked_bus.specs.Makes.{Makes}
-use Rattle.bus_model.specs.Access.{reaches_on}
 use Rattle.bonsai_tree.specs.Climb.{Climbs, NoNode, WritesUp}
 use Rattle.bonsai_tree.specs.Node.{level_blocks}
-use Rattle.bonsai_tree.specs.Tree.{EndsQuietly, WritesBack, path_accesses, HoldsTree}
+use Rattle.bonsai_tree.specs.Tree.{EndsQuietly, GoesOutFor, HoldsTree, IsFetchPlace}
+use Rattle.bonsai_tree.specs.TreeCall.{TreeCall}
 use Rattle.bonsai_tree.proofs.Climbs.{unmade_before}
-use Rattle.bonsai_tree.proofs.Copies.{few_copies}
 use Rattle.bonsai_tree.proofs.OutFor.{out_kept, out_on}
-use Rattle.bonsai_tree.proofs.PathCalls.{climb_room, climb_writes, fetched, fetched_accepted, fetched_alone, fetched_block, fetched_by_tag, fetched_checked, fetched_found, fetched_pages, fetched_read, not_from_one, ok_of, page_node, path_more, stop_of_err}
+use Rattle.bonsai_tree.proofs.PathCalls.{fetched, fetched_accepted, fetched_alone, fetched_block, fetched_by_tag, fetched_checked, fetched_found, fetched_pages, fetched_read, not_from_one, ok_of, page_node, path_more}
 use Rattle.bonsai_tree.proofs.Views.{latest_cached}
-use Rattle.bonsai_tree.proofs.WrittenBack.{came_unless_held, up_climbed, up_same}
+use Rattle.bonsai_tree.proofs.WrittenBack.{up_climbed, up_same}
+use Rattle.bonsai_tree.proofs.TreeCalls.{tree_called}
 use Rattle.bonsai_tree.proofs.TreeMakes.{makes_climbed, makes_read}
 use Rattle.bonsai_tree.proofs.tree.Tree.fetch.Given.{Over}
 use Rattle.bonsai_tree.proofs.tree.Tree.fetch.Goals as goal
@@ -38,31 +36,6 @@ pub returns-in_err-parent_present-clause-accepted : goal.returns-in_err-parent_p
 returns-in_err-parent_present-clause-accepted g c = λ made_at bytes tag quiet is.
     absurd (not_from_one c.args.self.now.geometry c.args.page (node_place 0 c.args.page) refl (c.in_err-parent_present.ensures.climbs.found quiet (Collision 0 c.args.page made_at bytes tag) is))
 
-pub returns-in_err-parent_present-clause-few_copies : goal.returns-in_err-parent_present-clause-few_copies
-returns-in_err-parent_present-clause-few_copies g c = λ level. few_copies c.parent_present.new.self.geometry c.parent_present.new.self.caches level c.in_err-parent_present.ensures.nodes
-
-pub returns-in_err-parent_present-clause-new_copies : goal.returns-in_err-parent_present-clause-new_copies
-returns-in_err-parent_present-clause-new_copies g c = c.in_err-parent_present.ensures.climbs.read
-
-pub returns-in_err-parent_present-clause-slots : goal.returns-in_err-parent_present-clause-slots
-returns-in_err-parent_present-clause-slots g c = c.in_err-parent_present.ensures.climbs.slots
-
-pub returns-in_err-parent_present-clause-writes : goal.returns-in_err-parent_present-clause-writes
-returns-in_err-parent_present-clause-writes g c = λ more is.
-    let why = c.in_err-parent_present.field-0.0 in
-    let stop : result_err c.from_residual.result ≡ Some why = search rules in
-    subst (λ (s : Option MemStop). WritesMessages (g.B.Bus.history c.args.bus.now) (g.B.Bus.history c.parent_present.new.bus) (length more) (unwritten_in s)) (sym stop)
-    (climb_writes g.T.Tagger.data_tag_of g.T.Tagger.node_tag_of (0 + 1) c.args.self.now c.parent_present.new.self (g.B.Bus.history c.args.bus.now) (g.B.Bus.history c.parent_present.new.bus) c.args.tags.now c.parent_present.new.tags (Some why) c.in_err-parent_present.ensures.climbs more is)
-
-pub returns-clause-holds : goal.returns-clause-holds
-returns-clause-holds g c = λ holds memory.
-    (whole g c).holds holds (λ is. memory (stop_is c.read_kept.result NoMemory is))
-
-pub returns-in_err-parent_present-clause-holds : goal.returns-in_err-parent_present-clause-holds
-returns-in_err-parent_present-clause-holds g c = λ holds memory.
-    let stop : result_err c.from_residual.result ≡ Some c.in_err-parent_present.field-0.0 = search rules in
-    c.in_err-parent_present.ensures.climbs.holds holds (λ is. memory (stop_is c.from_residual.result NoMemory (stop ∙ is)))
-
 pub returns-clause-block : goal.returns-clause-block
 returns-clause-block g c =
     fetched_block g.T.Tagger.data_tag_of g.T.Tagger.node_tag_of c.args.self.now c.parent_present.new.self c.args.page c.kept_tag-tag.result (g.B.Bus.history c.args.bus.now) (g.B.Bus.history c.parent_present.new.bus) (g.B.Bus.history c.read_kept.new.bus) c.args.tags.now c.parent_present.new.tags c.read_kept.new.tags c.read_kept.result (own_node g c) c.in_ok-parent_present.ensures.climbs c.kept_tag-tag.ensures c.read_kept.ensures.read
@@ -71,25 +44,9 @@ pub returns-clause-pages : goal.returns-clause-pages
 returns-clause-pages g c =
     fetched_pages g.T.Tagger.data_tag_of g.T.Tagger.node_tag_of c.args.self.now c.parent_present.new.self c.args.page c.kept_tag-tag.result (g.B.Bus.history c.args.bus.now) (g.B.Bus.history c.parent_present.new.bus) (g.B.Bus.history c.read_kept.new.bus) c.args.tags.now c.parent_present.new.tags c.read_kept.new.tags c.read_kept.result (own_node g c) c.in_ok-parent_present.ensures.climbs c.kept_tag-tag.ensures c.read_kept.ensures.read
 
-pub returns-clause-honest : goal.returns-clause-honest
-returns-clause-honest g c = λ used holds was.
-    (whole g c).honest holds used was
-
 pub returns-clause-accepted : goal.returns-clause-accepted
 returns-clause-accepted g c =
     fetched_accepted g.T.Tagger.data_tag_of g.T.Tagger.node_tag_of c.args.self.now c.parent_present.new.self c.args.page c.kept_tag-tag.result (g.B.Bus.history c.args.bus.now) (g.B.Bus.history c.parent_present.new.bus) (g.B.Bus.history c.read_kept.new.bus) c.args.tags.now c.parent_present.new.tags c.read_kept.new.tags c.read_kept.result (own_node g c) c.in_ok-parent_present.ensures.climbs c.kept_tag-tag.ensures c.read_kept.ensures.read
-
-pub returns-clause-found : goal.returns-clause-found
-returns-clause-found g c =
-    fetched_found g.T.Tagger.data_tag_of g.T.Tagger.node_tag_of c.args.self.now c.parent_present.new.self c.args.page c.kept_tag-tag.result (g.B.Bus.history c.args.bus.now) (g.B.Bus.history c.parent_present.new.bus) (g.B.Bus.history c.read_kept.new.bus) c.args.tags.now c.parent_present.new.tags c.read_kept.new.tags c.read_kept.result (own_node g c) c.in_ok-parent_present.ensures.climbs c.kept_tag-tag.ensures c.read_kept.ensures.read
-
-pub returns-clause-shown : goal.returns-clause-shown
-returns-clause-shown g c =
-    (whole g c).shown
-
-pub returns-clause-tampered : goal.returns-clause-tampered
-returns-clause-tampered g c = λ place is holds quiet.
-    (whole g c).lied holds quiet place (stop_of_err c.read_kept.result (Tampered place) is)
 
 pub returns-clause-checked : goal.returns-clause-checked
 returns-clause-checked g c =
@@ -109,30 +66,6 @@ returns-clause-read g c =
     ok_of c.read_kept.result (λ going. fetched_read g.T.Tagger.data_tag_of g.T.Tagger.node_tag_of c.args.self.now c.parent_present.new.self c.args.page c.kept_tag-tag.result (g.B.Bus.history c.args.bus.now) (g.B.Bus.history c.parent_present.new.bus) (g.B.Bus.history c.read_kept.new.bus) c.args.tags.now c.parent_present.new.tags c.read_kept.new.tags c.read_kept.result (own_node g c) c.in_ok-parent_present.ensures.climbs c.kept_tag-tag.ensures c.read_kept.ensures.read holds quiet going
     (latest_cached c.parent_present.new.self 1 (c.args.page / arity c.args.self.now.geometry) c.in_ok-parent_present.ensures.nodes (omega arith) inside
     (c.in_ok-parent_present.ensures.latest c.in_ok-parent_present.ensures.some)))
-
-pub returns-clause-once : goal.returns-clause-once
-returns-clause-once g c =
-    omega (arith, c.in_ok-parent_present.ensures.once, path_more c.args.self.now.geometry.levels, c.read_kept.ensures.read.most)
-
-pub returns-clause-few_copies : goal.returns-clause-few_copies
-returns-clause-few_copies g c = λ level. few_copies c.parent_present.new.self.geometry c.parent_present.new.self.caches level c.in_ok-parent_present.ensures.nodes
-
-pub returns-clause-new_copies : goal.returns-clause-new_copies
-returns-clause-new_copies g c =
-    (whole g c).read
-
-pub returns-clause-room : goal.returns-clause-room
-returns-clause-room g c =
-    climb_room g.T.Tagger.data_tag_of g.T.Tagger.node_tag_of 0 (path_accesses c.args.self.now.geometry.levels) c.args.self.now c.parent_present.new.self (g.B.Bus.history c.args.bus.now) (g.B.Bus.history c.read_kept.new.bus) c.args.tags.now c.read_kept.new.tags (result_err c.read_kept.result) (whole g c)
-    (omega (arith, c.in_ok-parent_present.ensures.few, path_more c.args.self.now.geometry.levels, ap length c.read_kept.ensures.read.made))
-
-pub returns-clause-slots : goal.returns-clause-slots
-returns-clause-slots g c =
-    (whole g c).slots
-
-pub returns-clause-writes : goal.returns-clause-writes
-returns-clause-writes g c = λ more is.
-    climb_writes g.T.Tagger.data_tag_of g.T.Tagger.node_tag_of 0 c.args.self.now c.parent_present.new.self (g.B.Bus.history c.args.bus.now) (g.B.Bus.history c.read_kept.new.bus) c.args.tags.now c.read_kept.new.tags (result_err c.read_kept.result) (whole g c) more is
 
 pub returns-in_err-parent_present-clause-no_page : goal.returns-in_err-parent_present-clause-no_page
 returns-in_err-parent_present-clause-no_page g c = c.in_err-parent_present.ensures.climbs.blocks 0 (omega arith)
@@ -162,13 +95,6 @@ pub returns-clause-hit_made : goal.returns-clause-hit_made
 returns-clause-hit_made g c = λ held.
     c.read_kept.ensures.read.made ∙ ap (λ (engine : TagEngineView g.row.T.Denot). engine.made) (c.in_ok-parent_present.ensures.hit held).1
 
-pub returns-in_err-parent_present-clause-written_back : goal.returns-in_err-parent_present-clause-written_back
-returns-in_err-parent_present-clause-written_back g c =
-    let why = c.in_err-parent_present.field-0.0 in
-    let stop : result_err c.from_residual.result ≡ Some why = search rules in
-    subst (λ (s : Option MemStop). WritesBack (EndsQuietly (tags_of g.T.Tagger.data_tag_of g.T.Tagger.node_tag_of) c.args.self.now (g.B.Bus.history c.args.bus.now) c.args.tags.now c.parent_present.new.tags) 1 c.args.self.now (g.B.Bus.history c.args.bus.now) c.args.tags.now.made c.parent_present.new.self (g.B.Bus.history c.parent_present.new.bus) c.parent_present.new.tags.made s) (sym stop)
-    c.in_err-parent_present.ensures.back.back
-
 -- nodes over the whole call
 nodes_back : (g : Over) (c : goal.After-read_kept g) → WritesUp (EndsQuietly (tags_of g.T.Tagger.data_tag_of g.T.Tagger.node_tag_of) c.args.self.now (g.B.Bus.history c.args.bus.now) c.args.tags.now c.read_kept.new.tags)
     1 NoNode c.args.self.now (g.B.Bus.history c.args.bus.now) c.args.tags.now.made c.parent_present.new.self (g.B.Bus.history c.read_kept.new.bus) c.read_kept.new.tags.made (result_err c.read_kept.result)
@@ -176,32 +102,6 @@ nodes_back g c =
     up_climbed g.T.Tagger.data_tag_of g.T.Tagger.node_tag_of 1 1 NoNode c.args.self.now c.parent_present.new.self c.parent_present.new.self (g.B.Bus.history c.args.bus.now) (g.B.Bus.history c.parent_present.new.bus) (g.B.Bus.history c.read_kept.new.bus) c.args.tags.now c.parent_present.new.tags c.read_kept.new.tags (result_err c.read_kept.result)
     c.in_ok-parent_present.ensures.climbs c.read_kept.ensures.read.moves c.in_ok-parent_present.ensures.back
     (up_same _ 1 NoNode c.parent_present.new.self c.parent_present.new.self (g.B.Bus.history c.parent_present.new.bus) (g.B.Bus.history c.read_kept.new.bus) c.parent_present.new.tags.made c.read_kept.new.tags.made (result_err c.read_kept.result) c.read_kept.ensures.read.moves.reads c.read_kept.ensures.read.made (λ level index. refl))
-
-pub returns-clause-written_back : goal.returns-clause-written_back
-returns-clause-written_back g c = (nodes_back g c).back
-
--- what has a copy came, unless it was held
-pub returns-in_err-parent_present-clause-came : goal.returns-in_err-parent_present-clause-came
-returns-in_err-parent_present-clause-came g c = λ holds quiet memory.
-    let stop : result_err c.from_residual.result ≡ Some c.in_err-parent_present.field-0.0 = search rules in
-    came_unless_held _ c.args.self.now c.parent_present.new.self (g.B.Bus.history c.args.bus.now) (g.B.Bus.history c.parent_present.new.bus) c.args.tags.now.made c.parent_present.new.tags.made (Some c.in_err-parent_present.field-0.0)
-    c.in_err-parent_present.ensures.back.back (holds, quiet) (λ is. memory (stop_is c.from_residual.result NoMemory (stop ∙ is)))
-
-pub returns-clause-came : goal.returns-clause-came
-returns-clause-came g c = λ holds quiet memory.
-    came_unless_held _ c.args.self.now c.parent_present.new.self (g.B.Bus.history c.args.bus.now) (g.B.Bus.history c.read_kept.new.bus) c.args.tags.now.made c.read_kept.new.tags.made (result_err c.read_kept.result)
-    (nodes_back g c).back (holds, quiet) (λ is. memory (stop_is c.read_kept.result NoMemory is))
-
-pub returns-in_err-parent_present-clause-no_rise : goal.returns-in_err-parent_present-clause-no_rise
-returns-in_err-parent_present-clause-no_rise g c = c.in_err-parent_present.ensures.climbs.no_rise
-
-pub returns-clause-no_rise : goal.returns-clause-no_rise
-returns-clause-no_rise g c = (whole g c).no_rise
-
-pub returns-in_err-parent_present-clause-last_blocks : goal.returns-in_err-parent_present-clause-last_blocks
-returns-in_err-parent_present-clause-last_blocks g c = λ was memory.
-    let stop : result_err c.from_residual.result ≡ Some c.in_err-parent_present.field-0.0 = search rules in
-    c.in_err-parent_present.ensures.climbs.last_blocks (λ is. memory (stop_is c.from_residual.result NoMemory (stop ∙ is))) was
 
 pub kept_tag-tag-requires-clause-node : goal.kept_tag-tag-requires-clause-node
 kept_tag-tag-requires-clause-node g c =
@@ -216,26 +116,6 @@ pub read_kept-requires-clause-node : goal.read_kept-requires-clause-node
 read_kept-requires-clause-node g c =
     subst (λ (k : GeometryView). IsNode k 0 c.args.page) (sym (c.in_ok-parent_present.ensures.climbs.moves.geometry ∙ c.requires.engine))
     (page_node c.args.self.now.geometry c.args.page c.requires.page)
-
-pub returns-clause-lines : goal.returns-clause-lines
-returns-clause-lines g c = (whole g c).lines
-
--- what copies go out for
-pub returns-clause-out_for : goal.returns-clause-out_for
-returns-clause-out_for g c = λ holds quiet.
-    let climbs = c.in_ok-parent_present.ensures.climbs in
-    let still = was_none c.parent_present.new.tags.evidence c.read_kept.new.tags.evidence c.read_kept.ensures.read.moves.evidence quiet in
-    ok_of c.read_kept.result (λ going.
-    out_on c.args.self.now c.parent_present.new.self c.parent_present.new.self (g.B.Bus.history c.args.bus.now) (g.B.Bus.history c.parent_present.new.bus) (g.B.Bus.history c.read_kept.new.bus)
-    c.args.tags.now.made c.parent_present.new.tags.made climbs.geometry climbs.moves.reads c.read_kept.ensures.read.moves.reads
-    (unmade_before c.args.tags.now.made c.parent_present.new.tags.made climbs.moves.more climbs.moves.made) (c.in_ok-parent_present.ensures.out_for holds still)
-    (out_kept c.parent_present.new.self c.parent_present.new.self (g.B.Bus.history c.parent_present.new.bus) (g.B.Bus.history c.read_kept.new.bus) c.parent_present.new.tags.made (λ level index held. held)))
-
-pub returns-clause-unread : goal.returns-clause-unread
-returns-clause-unread g c = (whole g c).unread
-
-pub returns-in_err-parent_present-clause-unread : goal.returns-in_err-parent_present-clause-unread
-returns-in_err-parent_present-clause-unread g c = c.in_err-parent_present.ensures.climbs.unread
 
 pub returns-clause-by_tag : goal.returns-clause-by_tag
 returns-clause-by_tag g c =
@@ -270,12 +150,37 @@ returns-clause-makes g c =
           read.0 (result_err c.read_kept.result) (subst (λ (k : GeometryView). IsNode k 0 c.args.page) (sym c.in_ok-parent_present.ensures.climbs.geometry) (own_node g c)) (c.kept_tag-tag.ensures c.parent_present.new.tags.made) read.2),
     )
 
-pub returns-in_err-parent_present-clause-room : goal.returns-in_err-parent_present-clause-room
-returns-in_err-parent_present-clause-room g c =
-    climb_room g.T.Tagger.data_tag_of g.T.Tagger.node_tag_of (0 + 1) (path_accesses c.args.self.now.geometry.levels) c.args.self.now c.parent_present.new.self (g.B.Bus.history c.args.bus.now) (g.B.Bus.history c.parent_present.new.bus) c.args.tags.now c.parent_present.new.tags
-    (Some c.in_err-parent_present.field-0.0) c.in_err-parent_present.ensures.climbs
+-- the call as a whole
+pub returns-in_err-parent_present-clause-called : goal.returns-in_err-parent_present-clause-called
+returns-in_err-parent_present-clause-called g c =
+    let why = c.in_err-parent_present.field-0.0 in
+    let stop : result_err c.from_residual.result ≡ Some why = search rules in
+    let climbs = c.in_err-parent_present.ensures.climbs in
+    subst (λ (s : Option MemStop). TreeCall (tags_of g.T.Tagger.data_tag_of g.T.Tagger.node_tag_of) (IsFetchPlace c.args.self.now.geometry c.args.page) c.args.self.now (g.B.Bus.history c.args.bus.now) c.args.tags.now c.parent_present.new.self (g.B.Bus.history c.parent_present.new.bus) c.parent_present.new.tags s) (sym stop)
+    (tree_called g.T.Tagger.data_tag_of g.T.Tagger.node_tag_of (IsFetchPlace c.args.self.now.geometry c.args.page) (0 + 1) c.args.self.now c.parent_present.new.self (g.B.Bus.history c.args.bus.now) (g.B.Bus.history c.parent_present.new.bus) c.args.tags.now c.parent_present.new.tags (Some why)
+    climbs c.in_err-parent_present.ensures.nodes c.in_err-parent_present.ensures.back.back
+    (omega (arith, c.in_err-parent_present.ensures.once, path_more c.args.self.now.geometry.levels))
     (omega (arith, c.in_err-parent_present.ensures.few, path_more c.args.self.now.geometry.levels))
+    (λ place is. inr (climbs.tampered place is)) (λ quiet evidence is. inr (climbs.found quiet evidence is)) (λ holds quiet going. absurd (cc)))
 
-pub returns-clause-moved : goal.returns-clause-moved
-returns-clause-moved g c =
-    reaches_on g.B.Bus.moved g.met.B.Bus.moved_on c.args.bus.now c.parent_present.new.bus c.read_kept.new.bus c.in_ok-parent_present.ensures.moved c.read_kept.ensures.moved
+-- what copies go out for
+goes_out : (g : Over) (c : goal.After-read_kept g) → HoldsTree (tags_of g.T.Tagger.data_tag_of g.T.Tagger.node_tag_of) c.args.self.now (g.B.Bus.history c.args.bus.now) c.args.tags.now → c.read_kept.new.tags.evidence ≡ None →
+    GoesOutFor c.args.self.now (g.B.Bus.history c.args.bus.now) c.args.tags.now.made c.parent_present.new.self (g.B.Bus.history c.read_kept.new.bus)
+goes_out g c holds quiet =
+    let climbs = c.in_ok-parent_present.ensures.climbs in
+    let still = was_none c.parent_present.new.tags.evidence c.read_kept.new.tags.evidence c.read_kept.ensures.read.moves.evidence quiet in
+    out_on c.args.self.now c.parent_present.new.self c.parent_present.new.self (g.B.Bus.history c.args.bus.now) (g.B.Bus.history c.parent_present.new.bus) (g.B.Bus.history c.read_kept.new.bus)
+    c.args.tags.now.made c.parent_present.new.tags.made climbs.geometry climbs.moves.reads c.read_kept.ensures.read.moves.reads
+    (unmade_before c.args.tags.now.made c.parent_present.new.tags.made climbs.moves.more climbs.moves.made) (c.in_ok-parent_present.ensures.out_for holds still)
+    (out_kept c.parent_present.new.self c.parent_present.new.self (g.B.Bus.history c.parent_present.new.bus) (g.B.Bus.history c.read_kept.new.bus) c.parent_present.new.tags.made (λ level index held. held))
+
+pub returns-clause-called : goal.returns-clause-called
+returns-clause-called g c =
+    let read = c.read_kept.ensures.read in
+    tree_called g.T.Tagger.data_tag_of g.T.Tagger.node_tag_of (IsFetchPlace c.args.self.now.geometry c.args.page) 0 c.args.self.now c.parent_present.new.self (g.B.Bus.history c.args.bus.now) (g.B.Bus.history c.read_kept.new.bus) c.args.tags.now c.read_kept.new.tags (result_err c.read_kept.result)
+    (whole g c) c.in_ok-parent_present.ensures.nodes (nodes_back g c).back
+    (omega (arith, c.in_ok-parent_present.ensures.once, path_more c.args.self.now.geometry.levels, read.most))
+    (omega (arith, c.in_ok-parent_present.ensures.few, path_more c.args.self.now.geometry.levels, ap length read.made))
+    (λ place is. inl (read.tampered place (stop_is c.read_kept.result (Tampered place) is)).0)
+    (fetched_found g.T.Tagger.data_tag_of g.T.Tagger.node_tag_of c.args.self.now c.parent_present.new.self c.args.page c.kept_tag-tag.result (g.B.Bus.history c.args.bus.now) (g.B.Bus.history c.parent_present.new.bus) (g.B.Bus.history c.read_kept.new.bus) c.args.tags.now c.parent_present.new.tags c.read_kept.new.tags c.read_kept.result (own_node g c) c.in_ok-parent_present.ensures.climbs c.kept_tag-tag.ensures read)
+    (λ holds quiet going. goes_out g c holds quiet)

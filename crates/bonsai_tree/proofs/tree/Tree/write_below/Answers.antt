@@ -9,7 +9,7 @@ use Rattle.sec_base.specs.declared.stop.MemStop.TheVariants.{NoMemory}
 use Rattle.sec_base.proofs.Results.{on_err}
 use Rattle.bus_model.specs.BusHistory.{BusHistory}
 use Rattle.tag_engine.specs.TagEngine.{TagEngineView, tags_of}
-use Rattle.bus_model.specs.Access.{reaches_none, Access}
+use Rattle.bus_model.specs.Access.{Access}
 use Rattle.checked_bus.specs.Makes.{Makes, access_of}
 use Rattle.bonsai_tree.specs.Climb.{Climbs, IsBlockOf, WritesUp}
 use Rattle.bonsai_tree.specs.Node.{CachedNode, with_tag}
@@ -190,10 +190,6 @@ returns-clause-reads g c = c.in_ok-tag.ensures.once.reads
 
 pub returns-in_err-tag-clause-reads : goal.returns-in_err-tag-clause-reads
 returns-in_err-tag-clause-reads g c = ap (λ (history : BusHistory). history.reads) c.in_err-tag.ensures.err
-
-pub returns-in_err-reserve-clause-moved : goal.returns-in_err-reserve-clause-moved
-returns-in_err-reserve-clause-moved g c =
-    (reaches_none g.B.Bus.moved g.met.B.Bus.unmoved) c.args.bus.now
 
 pub returns-in_err-reserve-clause-makes : goal.returns-in_err-reserve-clause-makes
 returns-in_err-reserve-clause-makes g c =

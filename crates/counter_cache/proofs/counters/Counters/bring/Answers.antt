@@ -2,34 +2,34 @@ use Rattle.std.proofs.Common.{◌≡◌, ◌≢◌, inl, inr, ◌+◌, ◌<◌, 
 use Rattle.std.specs.List.{Contains}
 use Rattle.std.specs.Option.{option_map}
 use Rattle.std.specs.Result.{result_err}
-use Rattle.sec_base.specs.Evidence.{evidence_place}
 use Rattle.sec_base.specs.Geometry.{GeometryView, page_count}
 use Rattle.sec_base.specs.declared.evidence.Evidence.TheVariants.{Collision}
 use Rattle.sec_base.specs.declared.message.Message.{Message}
-use Rattle.sec_base.specs.declared.place.Place.{Place}
 use Rattle.sec_base.specs.declared.place.Place.TheVariants.{Node as node_place}
 use Rattle.sec_base.specs.declared.stop.MemStop.{MemStop}
-use Rattle.sec_base.specs.declared.stop.MemStop.TheVariants.{Tampered, Spent}
-use Rattle.sec_base.proofs.Results.{stop_is, on_err, was_none}
+use Rattle.sec_base.proofs.Results.{on_err, was_none}
 use Rattle.cache_set.specs.declared.way.Way.{Way}
 use Rattle.cache_set.specs.Bringing.{with_new, with_room}
 use Rattle.cache_set.specs.CacheSet.{touched}
 use Rattle.cache_set.specs.Cache.{set_at, way_at, with_set}
 use Rattle.cache_set.proofs.Bringing.{brought_missed}
 use Rattle.cache_set.proofs.Listed.{listed_at}
-use Rattle.bus_model.specs.Access.{reaches_on}
 use Rattle.tag_engine.specs.TagEngine.{TagEngineView, tags_of}
+use Rattle.checked_bus.specs.Makes.{MakesAccesses}
+use Rattle.checked_bus.proofs.Makes.{accesses_not, accesses_on}
 use Rattle.bonsai_tree.specs.Node.{CachedNode}
 use Rattle.bonsai_tree.specs.NodeCache.{copy_of}
+use Rattle.bonsai_tree.specs.TreeCall.{TreeCall}
 use Rattle.bonsai_tree.specs.Tree.{HoldsTree, IsFetchPlace, IsKept, PathWasRead, TreeView, path_accesses}
 use Rattle.bonsai_tree.proofs.Climbs.{above_none, unmade_before}
 use Rattle.bonsai_tree.proofs.Nodes.{same_tags}
 use Rattle.bonsai_tree.proofs.PathCalls.{not_from_one}
+use Rattle.bonsai_tree.proofs.TreeMakes.{accesses_of}
 use Rattle.counter_cache.specs.Counters.{AreBlocks, CameFrom, CountersView, LeavesClean, OnlyLeavingIsMade, cached_block, cached_pages}
 use Rattle.counter_cache.specs.Having.{Has}
 use Rattle.counter_cache.proofs.BlockCopies.{blocks_put, blocks_same, cached_held, none_made_on}
 use Rattle.counter_cache.proofs.Hads.{had_tagged, quiet_before}
-use Rattle.counter_cache.proofs.Havings.{TreeCall, going, has_on, has_put, has_room, has_touched, has_tree, no_copy_below, over, path_on}
+use Rattle.counter_cache.proofs.Havings.{going, has_on, has_put, has_room, has_touched, has_tree, no_copy_below, over, path_on}
 use Rattle.counter_cache.proofs.BlocksHad.{block_held, had_goes, had_stays}
 use Rattle.counter_cache.proofs.BlocksMade.{blocks_came}
 use Rattle.counter_cache.proofs.counters.Counters.bring.Goals as goal
@@ -85,8 +85,6 @@ returns-in_err-block-clause-has g c =
     c.args.tags.now c.make_room.new.tags None same c.in_ok-make_room.ensures.has in
     let tree_is : c.self-2.inside.tree ≡ c.make_room.new.self.tree = ap (λ (v : CountersView). v.tree) c.self-2.view_is in
     let geometry : c.self-2.inside.tree.geometry ≡ c.args.self.now.tree.geometry = ap (λ (t : TreeView). t.geometry) tree_is ∙ room.geometry in
-    let at_geometry : (place : Place) → IsFetchPlace c.self-2.inside.tree.geometry c.args.page place → IsFetchPlace c.args.self.now.tree.geometry c.args.page place =
-    λ place is. subst (λ (k : GeometryView). IsFetchPlace k c.args.page place) geometry is in
     let why = c.in_err-block.field-0.0 in
     let stop : result_err c.from_residual-in_err-block.result ≡ Some why = search rules in
     let is : c.fetch.result ≡ Err why = c.in_err-block.was in
@@ -95,34 +93,14 @@ returns-in_err-block-clause-has g c =
     (has_on g.T.Tagger.data_tag_of g.T.Tagger.node_tag_of (IsFetchPlace c.args.self.now.tree.geometry c.args.page) c.args.self.now c.make_room.new.self (record { tree = c.fetch.new.self; blocks = c.self-2.inside.blocks }) (g.B.Bus.history c.args.bus.now) (g.B.Bus.history c.make_room.new.bus) (g.B.Bus.history c.fetch.new.bus) c.args.tags.now c.make_room.new.tags c.fetch.new.tags (result_err c.fetch.result) room
     (subst (λ (v : CountersView). Has (tags_of g.T.Tagger.data_tag_of g.T.Tagger.node_tag_of) (IsFetchPlace c.args.self.now.tree.geometry c.args.page) v (g.B.Bus.history c.make_room.new.bus) c.make_room.new.tags (over c.fetch.new.self (record { tree = c.self-2.inside.tree; blocks = c.self-2.inside.blocks })) (g.B.Bus.history c.fetch.new.bus) c.fetch.new.tags (result_err c.fetch.result)) c.self-2.view_is
     (has_tree g.T.Tagger.data_tag_of g.T.Tagger.node_tag_of (IsFetchPlace c.args.self.now.tree.geometry c.args.page) (record { tree = c.self-2.inside.tree; blocks = c.self-2.inside.blocks }) c.fetch.new.self (g.B.Bus.history c.make_room.new.bus) (g.B.Bus.history c.fetch.new.bus) c.make_room.new.tags c.fetch.new.tags (result_err c.fetch.result)
-    (record {
-      moves = c.fetch.ensures.moves;
-      lines = c.fetch.ensures.lines;
-      geometry = c.fetch.ensures.geometry;
-      root = c.fetch.ensures.root;
-      few_nodes = c.fetch.ensures.few_copies;
-      holds = λ holds memory. c.fetch.ensures.holds holds (λ is. memory (ap result_err is));
-      honest = λ holds used was. c.fetch.ensures.honest used holds was;
-      lied = λ holds quiet place is. c.fetch.ensures.tampered place (stop_is c.fetch.result (Tampered place) is) holds quiet;
-      shown = c.fetch.ensures.shown;
-      tampered = λ place is. at_geometry place (c.fetch.ensures.at_place place (stop_is c.fetch.result (Tampered place) is));
-      found = λ quiet evidence is. at_geometry (evidence_place evidence) (c.fetch.ensures.found evidence quiet is);
-      unspent = λ spent is. c.fetch.ensures.unspent spent (stop_is c.fetch.result (Spent spent) is);
-      writes = c.fetch.ensures.writes;
-      made_blocks = c.fetch.ensures.made_blocks;
-      last_blocks = λ remembered was. c.fetch.ensures.last_blocks was (λ is. remembered (ap result_err is));
-      slots = c.fetch.ensures.slots;
-      read = c.fetch.ensures.new_copies;
-      came = λ holds quiet memory. c.fetch.ensures.came holds quiet (λ is. memory (ap result_err is));
-      unread = c.fetch.ensures.unread;
-    })
+    (subst (λ (k : GeometryView). TreeCall (tags_of g.T.Tagger.data_tag_of g.T.Tagger.node_tag_of) (IsFetchPlace k c.args.page) c.self-2.inside.tree (g.B.Bus.history c.make_room.new.bus) c.make_room.new.tags c.fetch.new.self (g.B.Bus.history c.fetch.new.bus) c.fetch.new.tags (result_err c.fetch.result)) geometry c.fetch.ensures.called)
     (λ page unchanged. c.fetch.ensures.pages.last page))))
 
 pub returns-in_err-block-clause-accepted : goal.returns-in_err-block-clause-accepted
 returns-in_err-block-clause-accepted g c = λ made_at bytes tag quiet is.
     let mid : c.make_room.new.tags.evidence ≡ None =
     quiet_before c.self.inside.tree.geometry c.args.page c.make_room.new.tags.evidence c.fetch.new.tags.evidence (c.in_ok-make_room.ensures.has.found quiet)
-    c.fetch.ensures.moves.evidence made_at bytes tag is in
+    c.fetch.ensures.called.moves.evidence made_at bytes tag is in
     let both : Ok bytes ≡ Err c.in_err-block.field-0.0 = sym (c.fetch.ensures.accepted made_at bytes tag mid is) ∙ c.in_err-block.was in
     absurd (cc)
 
@@ -145,7 +123,7 @@ returns-in_err-block-clause-once_clean g c = λ clean.
     let geometry : c.self-2.inside.tree.geometry ≡ c.args.self.now.tree.geometry =
     ap (λ (v : CountersView). v.tree.geometry) c.self-2.view_is ∙ c.in_ok-make_room.ensures.has.geometry ∙ ap (λ (v : CountersView). v.tree.geometry) c.self.view_is in
     subst (λ (k : GeometryView). (g.B.Bus.history c.fetch.new.bus).accesses ≤ (g.B.Bus.history c.args.bus.now).accesses + path_accesses k.levels) geometry
-    (subst (λ (n : ℕ). (g.B.Bus.history c.fetch.new.bus).accesses ≤ n + path_accesses c.self-2.inside.tree.geometry.levels) idle c.fetch.ensures.once)
+    (subst (λ (n : ℕ). (g.B.Bus.history c.fetch.new.bus).accesses ≤ n + path_accesses c.self-2.inside.tree.geometry.levels) idle c.fetch.ensures.called.once)
 
 -- where its block is fetched
 pub invariant_of-self-3 : goal.invariant_of-self-3
@@ -156,7 +134,7 @@ invariant_of-self-3 g c =
       blocks = blocks_put c.fetch.new.self.geometry c.self-2.inside.blocks c.put.new.self
           (subst (λ (k : GeometryView). AreBlocks k c.self-2.inside.blocks) (sym c.fetch.ensures.geometry) c.self-2.invariant.blocks) c.put.ensures.cache c.args.page c.in_ok-block.block false
           (subst (λ (k : GeometryView). c.args.page < page_count k) (sym (c.fetch.ensures.geometry ∙ geometry)) c.requires.page) (search rules) c.put.ensures.put c.put.ensures.same;
-      few_nodes = c.fetch.ensures.few_copies;
+      few_nodes = c.fetch.ensures.called.few_nodes;
     }
 
 pub returns-clause-copies : goal.returns-clause-copies
@@ -171,8 +149,6 @@ returns-clause-has g c =
     c.args.tags.now c.make_room.new.tags None same c.in_ok-make_room.ensures.has in
     let tree_is : c.self-2.inside.tree ≡ c.make_room.new.self.tree = ap (λ (v : CountersView). v.tree) c.self-2.view_is in
     let geometry : c.self-2.inside.tree.geometry ≡ c.args.self.now.tree.geometry = ap (λ (t : TreeView). t.geometry) tree_is ∙ room.geometry in
-    let at_geometry : (place : Place) → IsFetchPlace c.self-2.inside.tree.geometry c.args.page place → IsFetchPlace c.args.self.now.tree.geometry c.args.page place =
-    λ place is. subst (λ (k : GeometryView). IsFetchPlace k c.args.page place) geometry is in
     let is : c.fetch.result ≡ Ok c.in_ok-block.block = c.in_ok-block.was in
     let empty : way_at c.self-2.inside.blocks c.args.page ≡ None =
     ap (λ (v : CountersView). way_at v.blocks c.args.page) c.self-2.view_is ∙ c.in_ok-make_room.ensures.absent in
@@ -180,27 +156,7 @@ returns-clause-has g c =
     (subst (λ (v : CountersView). Has (tags_of g.T.Tagger.data_tag_of g.T.Tagger.node_tag_of) (IsFetchPlace c.args.self.now.tree.geometry c.args.page) v (g.B.Bus.history c.make_room.new.bus) c.make_room.new.tags (record { tree = c.fetch.new.self; blocks = c.put.new.self }) (g.B.Bus.history c.fetch.new.bus) c.fetch.new.tags None) c.self-2.view_is
     (has_put g.T.Tagger.data_tag_of g.T.Tagger.node_tag_of (IsFetchPlace c.args.self.now.tree.geometry c.args.page) c.args.page (record { tree = c.self-2.inside.tree; blocks = c.self-2.inside.blocks }) c.fetch.new.self (record { tree = c.fetch.new.self; blocks = c.put.new.self }) (g.B.Bus.history c.make_room.new.bus) (g.B.Bus.history c.fetch.new.bus) c.make_room.new.tags c.fetch.new.tags c.in_ok-block.block
     (subst (λ (s : Option MemStop). TreeCall (tags_of g.T.Tagger.data_tag_of g.T.Tagger.node_tag_of) (IsFetchPlace c.args.self.now.tree.geometry c.args.page) c.self-2.inside.tree (g.B.Bus.history c.make_room.new.bus) c.make_room.new.tags c.fetch.new.self (g.B.Bus.history c.fetch.new.bus) c.fetch.new.tags s) (ap result_err is)
-    (record {
-      moves = c.fetch.ensures.moves;
-      lines = c.fetch.ensures.lines;
-      geometry = c.fetch.ensures.geometry;
-      root = c.fetch.ensures.root;
-      few_nodes = c.fetch.ensures.few_copies;
-      holds = λ holds memory. c.fetch.ensures.holds holds (λ is. memory (ap result_err is));
-      honest = λ holds used was. c.fetch.ensures.honest used holds was;
-      lied = λ holds quiet place is. c.fetch.ensures.tampered place (stop_is c.fetch.result (Tampered place) is) holds quiet;
-      shown = c.fetch.ensures.shown;
-      tampered = λ place is. at_geometry place (c.fetch.ensures.at_place place (stop_is c.fetch.result (Tampered place) is));
-      found = λ quiet evidence is. at_geometry (evidence_place evidence) (c.fetch.ensures.found evidence quiet is);
-      unspent = λ spent is. c.fetch.ensures.unspent spent (stop_is c.fetch.result (Spent spent) is);
-      writes = c.fetch.ensures.writes;
-      made_blocks = c.fetch.ensures.made_blocks;
-      last_blocks = λ remembered was. c.fetch.ensures.last_blocks was (λ is. remembered (ap result_err is));
-      slots = c.fetch.ensures.slots;
-      read = c.fetch.ensures.new_copies;
-      came = λ holds quiet memory. c.fetch.ensures.came holds quiet (λ is. memory (ap result_err is));
-      unread = c.fetch.ensures.unread;
-    }))
+    (subst (λ (k : GeometryView). TreeCall (tags_of g.T.Tagger.data_tag_of g.T.Tagger.node_tag_of) (IsFetchPlace k c.args.page) c.self-2.inside.tree (g.B.Bus.history c.make_room.new.bus) c.make_room.new.tags c.fetch.new.self (g.B.Bus.history c.fetch.new.bus) c.fetch.new.tags (result_err c.fetch.result)) geometry c.fetch.ensures.called))
     c.fetch.ensures.pages.last
     c.in_ok-block.ensures.block (inl refl)
     (λ holds quiet. subst (λ (page : ℕ). CameFrom c.make_room.new.tags.made (g.B.Bus.history c.make_room.new.bus) (g.B.Bus.history c.fetch.new.bus) page) (above_none c.self-2.inside.tree.geometry c.args.page)
@@ -225,17 +181,13 @@ returns-clause-read g c = λ holds quiet uncached.
     let room : Has (tags_of g.T.Tagger.data_tag_of g.T.Tagger.node_tag_of) (IsFetchPlace c.args.self.now.tree.geometry c.args.page) c.args.self.now (g.B.Bus.history c.args.bus.now) c.args.tags.now c.make_room.new.self (g.B.Bus.history c.make_room.new.bus) c.make_room.new.tags None =
     has_room g.T.Tagger.data_tag_of g.T.Tagger.node_tag_of c.args.page c.args.self.now (record { tree = c.self.inside.tree; blocks = c.touch.new.self }) c.make_room.new.self (g.B.Bus.history c.args.bus.now) (g.B.Bus.history c.make_room.new.bus)
     c.args.tags.now c.make_room.new.tags None same c.in_ok-make_room.ensures.has in
-    let mid : c.make_room.new.tags.evidence ≡ None = was_none c.make_room.new.tags.evidence c.fetch.new.tags.evidence c.fetch.ensures.moves.evidence quiet in
+    let mid : c.make_room.new.tags.evidence ≡ None = was_none c.make_room.new.tags.evidence c.fetch.new.tags.evidence c.fetch.ensures.called.moves.evidence quiet in
     let inside : HoldsTree (tags_of g.T.Tagger.data_tag_of g.T.Tagger.node_tag_of) c.self-2.inside.tree (g.B.Bus.history c.make_room.new.bus) c.make_room.new.tags =
     subst (λ (v : CountersView). HoldsTree (tags_of g.T.Tagger.data_tag_of g.T.Tagger.node_tag_of) v.tree (g.B.Bus.history c.make_room.new.bus) c.make_room.new.tags) (sym c.self-2.view_is)
     (room.holds holds going).tree in
     path_on c.args.self.now.tree c.make_room.new.self.tree c.args.page c.args.tags.now.made c.make_room.new.tags.made (g.B.Bus.history c.args.bus.now) (g.B.Bus.history c.make_room.new.bus) (g.B.Bus.history c.fetch.new.bus) room.geometry room.moves.reads
-    c.fetch.ensures.moves.reads (room.read holds mid) (unmade_before c.args.tags.now.made c.make_room.new.tags.made room.moves.more room.moves.made)
+    c.fetch.ensures.called.moves.reads (room.read holds mid) (unmade_before c.args.tags.now.made c.make_room.new.tags.made room.moves.more room.moves.made)
     (subst (λ (v : CountersView). PathWasRead v.tree c.make_room.new.tags.made 0 c.args.page (g.B.Bus.history c.make_room.new.bus) (g.B.Bus.history c.fetch.new.bus)) c.self-2.view_is (c.in_ok-block.ensures.read inside quiet))
-
-pub returns-clause-moved : goal.returns-clause-moved
-returns-clause-moved g c =
-    (reaches_on g.B.Bus.moved g.met.B.Bus.moved_on) c.args.bus.now c.make_room.new.bus c.fetch.new.bus c.make_room.ensures.moved c.fetch.ensures.moved
 
 pub returns-clause-alone : goal.returns-clause-alone
 returns-clause-alone g c = λ other apart. c.fetch.ensures.alone other apart ∙ c.make_room.ensures.no_block_read other
@@ -250,7 +202,7 @@ returns-clause-once_clean g c = λ clean.
     let geometry : c.self-2.inside.tree.geometry ≡ c.args.self.now.tree.geometry =
     ap (λ (v : CountersView). v.tree.geometry) c.self-2.view_is ∙ c.in_ok-make_room.ensures.has.geometry ∙ ap (λ (v : CountersView). v.tree.geometry) c.self.view_is in
     subst (λ (k : GeometryView). (g.B.Bus.history c.fetch.new.bus).accesses ≤ (g.B.Bus.history c.args.bus.now).accesses + path_accesses k.levels) geometry
-    (subst (λ (n : ℕ). (g.B.Bus.history c.fetch.new.bus).accesses ≤ n + path_accesses c.self-2.inside.tree.geometry.levels) idle c.fetch.ensures.once)
+    (subst (λ (n : ℕ). (g.B.Bus.history c.fetch.new.bus).accesses ≤ n + path_accesses c.self-2.inside.tree.geometry.levels) idle c.fetch.ensures.called.once)
 
 -- which blocks were made
 pub returns-in_err-make_room-clause-written : goal.returns-in_err-make_room-clause-written
@@ -272,10 +224,6 @@ returns-clause-written g c =
     ap (λ (b : List (List Way)). record { tree = c.self.inside.tree; blocks = b }) (c.if-touch.ensures.unchanged refl) ∙ c.self.view_is in
     none_made_on c.args.self.now c.args.page c.args.tags.now.made c.make_room.new.tags.made c.fetch.new.tags.made c.fetch.ensures.no_page
     (subst (λ (v : CountersView). OnlyLeavingIsMade v c.args.page c.args.tags.now.made c.make_room.new.tags.made) same c.make_room.ensures.written)
-
-pub returns-in_err-block-clause-moved : goal.returns-in_err-block-clause-moved
-returns-in_err-block-clause-moved g c =
-    (reaches_on g.B.Bus.moved g.met.B.Bus.moved_on) c.args.bus.now c.make_room.new.bus c.fetch.new.bus c.make_room.ensures.moved c.fetch.ensures.moved
 
 pub returns-then-touch-clause-parent : goal.returns-then-touch-clause-parent
 returns-then-touch-clause-parent g c = λ uncached.
@@ -327,7 +275,7 @@ returns-clause-block g c =
           (λ quiet made_at shown tag is.
           let mid : c.make_room.new.tags.evidence ≡ None =
           quiet_before c.self.inside.tree.geometry c.args.page c.make_room.new.tags.evidence c.fetch.new.tags.evidence (c.in_ok-make_room.ensures.has.found quiet)
-          c.fetch.ensures.moves.evidence made_at shown tag is in
+          c.fetch.ensures.called.moves.evidence made_at shown tag is in
           let both : Ok c.in_ok-block.block ≡ Ok shown = sym c.in_ok-block.was ∙ c.fetch.ensures.accepted made_at shown tag mid is in
           let same_block : c.in_ok-block.block ≡ shown = cc in same_block);
       brought_is =
@@ -361,3 +309,35 @@ returns-clause-came g c = λ holds quiet.
 
 pub returns-then-touch-clause-hit : goal.returns-then-touch-clause-hit
 returns-then-touch-clause-hit g c = λ cached. (refl, refl, refl, ap (λ (v : CountersView). v.tree) c.self.view_is)
+
+-- its accesses
+pub returns-then-touch-clause-accesses : goal.returns-then-touch-clause-accesses
+returns-then-touch-clause-accesses g c =
+    accesses_not g.B.Bus.moved g.T.Tagger.data_tag_of g.T.Tagger.node_tag_of g.met.B.Bus.unmoved c.args.bus.now c.args.tags.now None (λ place is. cc)
+
+pub returns-in_err-make_room-clause-accesses : goal.returns-in_err-make_room-clause-accesses
+returns-in_err-make_room-clause-accesses g c =
+    let why = c.in_err-make_room.field-0.0 in
+    let stop : result_err c.from_residual.result ≡ Some why = search rules in
+    subst (λ (s : Option MemStop). MakesAccesses g.B.Bus.moved (tags_of g.T.Tagger.data_tag_of g.T.Tagger.node_tag_of c.args.tags.now) c.args.bus.now c.args.tags.now c.make_room.new.bus c.make_room.new.tags s) (sym stop)
+    c.in_err-make_room.ensures.accesses
+
+pub returns-in_err-block-clause-accesses : goal.returns-in_err-block-clause-accesses
+returns-in_err-block-clause-accesses g c =
+    let moves = c.in_ok-make_room.ensures.has.moves in
+    let why = c.in_err-block.field-0.0 in
+    let stop : result_err c.from_residual-in_err-block.result ≡ Some why = search rules in
+    subst (λ (s : Option MemStop). MakesAccesses g.B.Bus.moved (tags_of g.T.Tagger.data_tag_of g.T.Tagger.node_tag_of c.args.tags.now) c.args.bus.now c.args.tags.now c.fetch.new.bus c.fetch.new.tags s) (ap result_err c.in_err-block.was ∙ sym stop)
+    (accesses_on g.B.Bus.moved g.T.Tagger.data_tag_of g.T.Tagger.node_tag_of g.met.B.Bus.moved_on c.args.bus.now c.make_room.new.bus c.fetch.new.bus c.args.tags.now c.make_room.new.tags c.fetch.new.tags (result_err c.fetch.result)
+    moves.geometry moves.tagger c.fetch.ensures.called.moves.evidence c.in_ok-make_room.ensures.accesses
+    (accesses_of g.B.Bus.moved (tags_of g.T.Tagger.data_tag_of g.T.Tagger.node_tag_of c.make_room.new.tags) (λ used. HoldsTree (tags_of g.T.Tagger.data_tag_of g.T.Tagger.node_tag_of) c.self-2.inside.tree (g.B.Bus.history c.make_room.new.bus) c.make_room.new.tags)
+    c.make_room.new.bus c.fetch.new.bus (g.B.Bus.history c.make_room.new.bus) (g.B.Bus.history c.fetch.new.bus) c.make_room.new.tags c.fetch.new.tags (result_err c.fetch.result) c.fetch.ensures.makes))
+
+pub returns-clause-accesses : goal.returns-clause-accesses
+returns-clause-accesses g c =
+    let moves = c.in_ok-make_room.ensures.has.moves in
+    subst (λ (s : Option MemStop). MakesAccesses g.B.Bus.moved (tags_of g.T.Tagger.data_tag_of g.T.Tagger.node_tag_of c.args.tags.now) c.args.bus.now c.args.tags.now c.fetch.new.bus c.fetch.new.tags s) (ap result_err c.in_ok-block.was)
+    (accesses_on g.B.Bus.moved g.T.Tagger.data_tag_of g.T.Tagger.node_tag_of g.met.B.Bus.moved_on c.args.bus.now c.make_room.new.bus c.fetch.new.bus c.args.tags.now c.make_room.new.tags c.fetch.new.tags (result_err c.fetch.result)
+    moves.geometry moves.tagger c.fetch.ensures.called.moves.evidence c.in_ok-make_room.ensures.accesses
+    (accesses_of g.B.Bus.moved (tags_of g.T.Tagger.data_tag_of g.T.Tagger.node_tag_of c.make_room.new.tags) (λ used. HoldsTree (tags_of g.T.Tagger.data_tag_of g.T.Tagger.node_tag_of) c.self-2.inside.tree (g.B.Bus.history c.make_room.new.bus) c.make_room.new.tags)
+    c.make_room.new.bus c.fetch.new.bus (g.B.Bus.history c.make_room.new.bus) (g.B.Bus.history c.fetch.new.bus) c.make_room.new.tags c.fetch.new.tags (result_err c.fetch.result) c.fetch.ensures.makes))

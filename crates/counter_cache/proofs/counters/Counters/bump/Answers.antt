@@ -1,6 +1,8 @@
-use Rattle.std.proofs.Common.{◌≡◌, Some, rules}
+use Rattle.std.proofs.Common.{◌≡◌, Option, Some, sym, subst, rules}
 use Rattle.std.specs.Result.{result_err}
+use Rattle.sec_base.specs.declared.stop.MemStop.{MemStop}
 use Rattle.tag_engine.specs.TagEngine.{tags_of}
+use Rattle.checked_bus.specs.Makes.{MakesAccesses}
 use Rattle.counter_cache.proofs.Counted.{bumped_not}
 use Rattle.counter_cache.proofs.counters.Counters.bump.Goals as goal
 
@@ -16,3 +18,10 @@ returns-in_err-get-clause-bumped g c =
 
 pub returns-clause-bumped : goal.returns-clause-bumped
 returns-clause-bumped g c = record { middle = c.get.new.self; had = c.in_ok-get.ensures.had; counted = c.count.ensures.counted }
+
+pub returns-in_err-get-clause-accesses : goal.returns-in_err-get-clause-accesses
+returns-in_err-get-clause-accesses g c =
+    let why = c.in_err-get.field-0.0 in
+    let stop : result_err c.from_residual.result ≡ Some why = search rules in
+    subst (λ (s : Option MemStop). MakesAccesses g.B.Bus.moved (tags_of g.T.Tagger.data_tag_of g.T.Tagger.node_tag_of c.args.tags.now) c.args.bus.now c.args.tags.now c.get.new.bus c.get.new.tags s) (sym stop)
+    c.in_err-get.ensures.accesses

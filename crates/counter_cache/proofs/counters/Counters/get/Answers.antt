@@ -3,6 +3,7 @@ use Rattle.std.specs.Result.{result_err}
 use Rattle.sec_base.specs.declared.stop.MemStop.{MemStop}
 use Rattle.cache_set.specs.Cache.{IsLatest}
 use Rattle.tag_engine.specs.TagEngine.{tags_of}
+use Rattle.checked_bus.specs.Makes.{MakesAccesses}
 use Rattle.counter_cache.specs.Counters.{CountersView}
 use Rattle.counter_cache.specs.HadCounters.{HadCounters}
 use Rattle.counter_cache.proofs.BlockCopies.{few_blocks}
@@ -61,3 +62,10 @@ latest-requires g c = (
   omega arith,
   subst (λ (v : CountersView). IsLatest v.blocks c.args.page) (sym c.self.view_is) c.in_ok-bring.ensures.block.latest,
 )
+
+pub returns-in_err-bring-clause-accesses : goal.returns-in_err-bring-clause-accesses
+returns-in_err-bring-clause-accesses g c =
+    let why = c.in_err-bring.field-0.0 in
+    let stop : result_err c.from_residual.result ≡ Some why = search rules in
+    subst (λ (s : Option MemStop). MakesAccesses g.B.Bus.moved (tags_of g.T.Tagger.data_tag_of g.T.Tagger.node_tag_of c.args.tags.now) c.args.bus.now c.args.tags.now c.bring.new.bus c.bring.new.tags s) (sym stop)
+    c.in_err-bring.ensures.accesses

@@ -7,6 +7,8 @@ use Rattle.cache_set.specs.declared.way.Way.{Way}
 use Rattle.cache_set.specs.Bringing.{room_if}
 use Rattle.cache_set.specs.Cache.{place_of, victim_for, way_at}
 use Rattle.tag_engine.specs.TagEngine.{tags_of}
+use Rattle.checked_bus.specs.Makes.{MakesAccesses}
+use Rattle.checked_bus.proofs.Makes.{accesses_not}
 use Rattle.bonsai_tree.specs.NodeCache.{copy_of}
 use Rattle.bonsai_tree.specs.Tree.{IsNodeFrom}
 use Rattle.counter_cache.specs.Counters.{AreBlocks, CountersView, leaving_page}
@@ -115,3 +117,15 @@ returns-clause-ways g c =
     let blocks : c.self-2.inside.blocks ≡ c.args.self.now.blocks = ap (λ (v : CountersView). v.blocks) c.self-2.view_is ∙ c.write_back.ensures.blocks in
     c.remove.ensures.after ∙ ap (λ (sets : List (List Way)). room_if (Some c.in-Some.victim) sets) blocks
     ∙ ap (λ (v : Option Way). room_if v c.args.self.now.blocks) (sym goes)
+
+-- its accesses
+pub returns-in_default-clause-accesses : goal.returns-in_default-clause-accesses
+returns-in_default-clause-accesses g c =
+    accesses_not g.B.Bus.moved g.T.Tagger.data_tag_of g.T.Tagger.node_tag_of g.met.B.Bus.unmoved c.args.bus.now c.args.tags.now None (λ place is. cc)
+
+pub returns-in_err-write_back-clause-accesses : goal.returns-in_err-write_back-clause-accesses
+returns-in_err-write_back-clause-accesses g c =
+    let why = c.in_err-write_back.field-0.0 in
+    let stop : result_err c.from_residual.result ≡ Some why = search rules in
+    subst (λ (s : Option MemStop). MakesAccesses g.B.Bus.moved (tags_of g.T.Tagger.data_tag_of g.T.Tagger.node_tag_of c.args.tags.now) c.args.bus.now c.args.tags.now c.write_back.new.bus c.write_back.new.tags s) (sym stop)
+    c.in_err-write_back.ensures.accesses

@@ -1,13 +1,13 @@
-use Rattle.std.proofs.Common.{◌≡◌, inl, inr, ℕ, Some, true, false, ap, ◌∙◌, subst, rules}
+use Rattle.std.proofs.Common.{◌≡◌, inl, inr, ℕ, Some, None, true, false, ap, ◌∙◌, subst, rules}
 use Rattle.std.specs.Option.{option_map}
 use Rattle.std.specs.Result.{result_err}
 use Rattle.std.proofs.lemmas.Bool.{cases_eq}
-use Rattle.sec_base.specs.declared.stop.MemStop.TheVariants.{Tampered, Spent}
-use Rattle.sec_base.proofs.Results.{stop_is}
 use Rattle.cache_set.specs.Cache.{way_at}
 use Rattle.tag_engine.specs.TagEngine.{tags_of}
 use Rattle.bonsai_tree.specs.NodeCache.{copy_of}
-use Rattle.bonsai_tree.specs.Tree.{IsNodeFrom}
+use Rattle.checked_bus.proofs.Makes.{accesses_not}
+use Rattle.bonsai_tree.specs.Tree.{HoldsTree, IsNodeFrom}
+use Rattle.bonsai_tree.proofs.TreeMakes.{accesses_of}
 use Rattle.counter_cache.specs.Counters.{CountersView, cached_block}
 use Rattle.counter_cache.specs.Having.{Has}
 use Rattle.counter_cache.proofs.Havings.{has_not, has_tree, over}
@@ -21,27 +21,7 @@ returns-clause-has g c =
     subst (λ (v : CountersView). Has (tags_of g.T.Tagger.data_tag_of g.T.Tagger.node_tag_of) (IsNodeFrom v.tree.geometry 1) v (g.B.Bus.history c.args.bus.now) c.args.tags.now (over c.update.new.self (record { tree = c.self.inside.tree; blocks = c.self.inside.blocks }))
     (g.B.Bus.history c.update.new.bus) c.update.new.tags (result_err c.update.result)) c.self.view_is
     (has_tree g.T.Tagger.data_tag_of g.T.Tagger.node_tag_of (IsNodeFrom c.self.inside.tree.geometry 1) (record { tree = c.self.inside.tree; blocks = c.self.inside.blocks }) c.update.new.self (g.B.Bus.history c.args.bus.now) (g.B.Bus.history c.update.new.bus) c.args.tags.now c.update.new.tags (result_err c.update.result)
-    (record {
-      moves = c.update.ensures.moves;
-      lines = c.update.ensures.lines;
-      geometry = c.update.ensures.geometry;
-      root = c.update.ensures.root;
-      few_nodes = c.update.ensures.few_copies;
-      holds = λ holds memory. c.update.ensures.holds holds (λ is. memory (ap result_err is));
-      honest = λ holds used was. c.update.ensures.honest used holds was;
-      lied = λ holds quiet place is. c.update.ensures.tampered place (stop_is c.update.result (Tampered place) is) holds quiet;
-      shown = c.update.ensures.shown;
-      tampered = λ place is. c.update.ensures.at_place place (stop_is c.update.result (Tampered place) is);
-      found = λ quiet evidence is. c.update.ensures.found evidence quiet is;
-      unspent = λ spent is. c.update.ensures.unspent spent (stop_is c.update.result (Spent spent) is);
-      writes = c.update.ensures.writes;
-      made_blocks = c.update.ensures.made_blocks;
-      last_blocks = λ remembered was. c.update.ensures.last_blocks was (λ is. remembered (ap result_err is));
-      slots = c.update.ensures.slots;
-      read = c.update.ensures.new_copies;
-      came = λ holds quiet memory. c.update.ensures.came holds quiet (λ is. memory (ap result_err is));
-      unread = c.update.ensures.unread;
-    })
+    c.update.ensures.called
     (λ page unchanged. elim (cases_eq page c.args.victim.now.place) [
       | inr apart ↦ c.update.ensures.others page apart
       | inl here ↦
@@ -65,3 +45,13 @@ returns-clause-written g c =
       | inl same ↦ inl same
       | inr one ↦ inr (changed, one)
     ]
+
+-- its accesses
+pub returns-then-not-victim-clause-accesses : goal.returns-then-not-victim-clause-accesses
+returns-then-not-victim-clause-accesses g c =
+    accesses_not g.B.Bus.moved g.T.Tagger.data_tag_of g.T.Tagger.node_tag_of g.met.B.Bus.unmoved c.args.bus.now c.args.tags.now None (λ place is. cc)
+
+pub returns-clause-accesses : goal.returns-clause-accesses
+returns-clause-accesses g c =
+    accesses_of g.B.Bus.moved (tags_of g.T.Tagger.data_tag_of g.T.Tagger.node_tag_of c.args.tags.now) (λ used. HoldsTree (tags_of g.T.Tagger.data_tag_of g.T.Tagger.node_tag_of) c.self.inside.tree (g.B.Bus.history c.args.bus.now) c.args.tags.now)
+    c.args.bus.now c.update.new.bus (g.B.Bus.history c.args.bus.now) (g.B.Bus.history c.update.new.bus) c.args.tags.now c.update.new.tags (result_err c.update.result) c.update.ensures.makes
