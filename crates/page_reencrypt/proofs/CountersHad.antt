@@ -1,11 +1,12 @@
 -- What a step over the nodes takes from a call that had the counters of a page, and from a write that was counted by them.
-use Rattle.std.proofs.Common.{◌≡◌, ◌≢◌, ◌⊎◌, inl, inr, ℕ, ◌<◌, ◌≤◌, List, length, Option, Some, None, Contains, Result, Ok, Err, IfOk, OnOk, refl, ap, sym, ◌∙◌, subst}
+use Rattle.std.proofs.Common.{◌≡◌, ◌≢◌, ◌⊎◌, inl, inr, ℕ, ◌<◌, List, Option, Some, None, Contains, Result, Ok, Err, IfOk, OnOk, refl, ap, sym, ◌∙◌, subst}
 use Rattle.std.specs.Result.{result_err}
 use Rattle.sec_base.specs.Geometry.{GeometryView, page_count}
 use Rattle.sec_base.specs.declared.evidence.Evidence.TheVariants.{Collision}
 use Rattle.sec_base.specs.declared.stop.MemStop.{MemStop}
 use Rattle.sec_base.specs.declared.stop.MemStop.TheVariants.{NoMemory, Spent, Tampered}
 use Rattle.cache_set.specs.Cache.{IsLatest}
+use Rattle.bus_model.specs.Access.{Access}
 use Rattle.bus_model.specs.BusHistory.{BusHistory}
 use Rattle.tag_engine.specs.TagEngine.{TagEngineView, tags_of}
 use Rattle.split_counter.specs.declared.bumped.Bumped.{Bumped}
@@ -107,7 +108,7 @@ module _ {T : Type 0} (d n : T → List ℕ → List ℕ) (counters counters' : 
     ])
 
 -- What a write that was counted makes of the memory outside with its counters: nothing but the page's counters change.
-pub record CountedUpBy {B T : Type 0} (history : B → BusHistory) (moved : B → B → Type 0) (d n : T → List ℕ → List ℕ) (outside : OutsideView B T)
+pub record CountedUpBy {B T : Type 0} (history : B → BusHistory) (moved : B → List Access → B → Type 0) (d n : T → List ℕ → List ℕ) (outside : OutsideView B T)
     (counters counters' : CountersView) (page place limit : ℕ) (outcome : Bumped) : Type 0 where
   pub geometry : counters'.tree.geometry ≡ counters.tree.geometry
   pub few : KeepsFew counters counters'
@@ -121,7 +122,7 @@ pub record CountedUpBy {B T : Type 0} (history : B → BusHistory) (moved : B �
   pub cached : Contains (cached_pages counters') page
   pub inside : (geometry : GeometryView) → AreOfPages geometry counters → AreOfPages geometry counters'
 
-pub counted_up_by : {B T : Type 0} (history : B → BusHistory) (moved : B → B → Type 0) (d n : T → List ℕ → List ℕ) (outside : OutsideView B T)
+pub counted_up_by : {B T : Type 0} (history : B → BusHistory) (moved : B → List Access → B → Type 0) (d n : T → List ℕ → List ℕ) (outside : OutsideView B T)
     (counters counters' : CountersView) (page place limit : ℕ) (outcome : Bumped) → IsCounted counters counters' page place limit outcome →
     AreCopies counters → AreCopies counters' → CountedUpBy history moved d n outside counters counters' page place limit outcome
 counted_up_by history moved d n outside counters counters' page place limit outcome is before after = record {

@@ -6,6 +6,7 @@ use Rattle.sec_base.specs.LastMessage.{last_at, data_pairs}
 use Rattle.sec_base.specs.declared.counter.Counter.{Counter}
 use Rattle.sec_base.specs.declared.message.Message.{Message}
 use Rattle.sec_base.specs.declared.place.Place.TheVariants.{Line as line_place, Node as node_place}
+use Rattle.bus_model.specs.Access.{Access}
 use Rattle.bus_model.specs.BusHistory.{BusHistory, NothingWritten}
 use Rattle.tag_engine.specs.TagEngine.{TagEngineView, new_engine, tags_of}
 use Rattle.pad_stream.specs.PadEngine.{PadEngineView, new_pads}
@@ -72,7 +73,7 @@ new_said tag_of geometry = record {
   blocks = record { said = λ page line block listed of_page. absurd (omega (arith, listed.1)) };
 }
 
-module _ {B T : Type 0} (d n : T → List ℕ → List ℕ) (history : B → BusHistory) (bus_moved : B → B → Type 0) (bus : B) (tagger : T) (key : List ℕ) (geometry : GeometryView) (limit : ℕ)
+module _ {B T : Type 0} (d n : T → List ℕ → List ℕ) (history : B → BusHistory) (bus_moved : B → List Access → B → Type 0) (bus : B) (tagger : T) (key : List ℕ) (geometry : GeometryView) (limit : ℕ)
     (engine : TagEngineView T) (pads : PadEngineView) (counters : CountersView) (new : engine ≡ new_engine tagger geometry) (unused : pads ≡ new_pads key)
     (same : (history bus).geometry ≡ geometry) (empty : NothingWritten (history bus)) (tree_geometry : counters.tree.geometry ≡ geometry)
     (holds : HoldsCounters (tags_of d n) counters (history bus) engine)

@@ -13,11 +13,13 @@ use Rattle.sec_base.specs.declared.stop.MemStop.TheVariants.{Tampered, Spent, No
 use Rattle.sec_base.specs.Count.{Rose}
 use Rattle.sec_base.specs.Geometry.{GeometryView, line_count, page_count, page_of}
 use Rattle.sec_base.proofs.Results.{was_none}
+use Rattle.bus_model.specs.Access.{Access}
 use Rattle.bus_model.specs.BusHistory.{BusHistory, after_write}
 use Rattle.tag_engine.specs.TagEngine.{TagEngineView, after_make, tags_of, with_room as tags_with_room}
 use Rattle.pad_stream.specs.Pad.{cipher_of}
 use Rattle.pad_stream.specs.PadEngine.{PadEngineView, after_encrypt, with_room as pads_with_room}
 use Rattle.pad_stream.specs.Pads.{IsBefore}
+use Rattle.checked_bus.specs.Makes.{MakesAccesses}
 use Rattle.checked_bus.specs.SealedLine.{sealed_line}
 use Rattle.checked_bus.specs.Steps.{IsAccounted, Moves as StepMoves}
 use Rattle.split_counter.specs.declared.bumped.Bumped.{Bumped}
@@ -125,7 +127,7 @@ bumped_page : (used used' : List (ℕ × Counter)) (line place limit page : ℕ)
 bumped_page used used' line place limit page block block' up now entries =
     page_of_page used used' line page block' (now ∙ bumped_block place limit block (page_up page) up) entries
 
-module _ {B T : Type 0} (history : B → BusHistory) (moved : B → B → Type 0) (d n : T → List ℕ → List ℕ) (old : OutsideView B T) (counters : CountersView) where
+module _ {B T : Type 0} (history : B → BusHistory) (moved : B → List Access → B → Type 0) (d n : T → List ℕ → List ℕ) (old : OutsideView B T) (counters : CountersView) where
   abbrev terms : MemoryTerms B
   terms = terms_of history moved d n old
 
@@ -219,8 +221,8 @@ module _ {B T : Type 0} (history : B → BusHistory) (moved : B → B → Type 0
 
   -- Memory was taken, where the counters were had
 
-  module _ (got : OutsideView B T) (counters' : CountersView) (a : IsReached terms old counters got counters' None) (unmoved : moved got.bus got.bus)
-      (moved_on : (first second third : B) → moved first second → moved second third → moved first third) where
+  module _ (got : OutsideView B T) (counters' : CountersView) (a : IsReached terms old counters got counters' None) (unmoved : (bus : B) → moved bus [] bus)
+      (moved_on : (first second third : B) (before after : List Access) → moved first before second → moved second after third → moved first (before ++ after) third) where
     pub refused_reached : (new : OutsideView B T) → DiffersInRoom got new → IsReached terms old counters new counters' (Some NoMemory)
     refused_reached new differs =
         reached_on terms moved_on old got new counters counters' counters' (Some NoMemory) a
@@ -307,10 +309,10 @@ module _ {B T : Type 0} (history : B → BusHistory) (moved : B → B → Type 0
       pub now : mid.engine.evidence ≡ None → counters_in counters'' mid.engine.made page ≡ (after_bump place limit (counters_in counters' roomy.engine.made page)).1
       pub others : mid.engine.evidence ≡ None → (other : ℕ) → other ≢ page → counters_in counters'' mid.engine.made other ≡ counters_in counters' roomy.engine.made other
 
-    module _ (unmoved : moved got.bus got.bus) (moved_on : (first second third : B) → moved first second → moved second third → moved first third)
+    module _ (unmoved : (bus : B) → moved bus [] bus) (moved_on : (first second third : B) (before after : List Access) → moved first before second → moved second after third → moved first (before ++ after) third)
         (roomy mid : OutsideView B T) (counters'' : CountersView) (outcome : Bumped) where
       -- by what a bump of counters on the chip makes of the memory outside
-      pub counted_up : roomy ≡ with_room 64 64 got → moved roomy.bus mid.bus → (history mid.bus ≡ history roomy.bus) × (mid.engine ≡ roomy.engine) →
+      pub counted_up : roomy ≡ with_room 64 64 got → (mid.bus ≡ roomy.bus) × (mid.engine ≡ roomy.engine) →
           mid.pads ≡ roomy.pads → counters''.tree.geometry ≡ counters'.tree.geometry →
           KeepsFew counters' counters'' →
           (CountersFit (terms_of history moved d n roomy) roomy counters' → mid.engine.evidence ≡ None →
@@ -322,7 +324,7 @@ module _ {B T : Type 0} (history : B → BusHistory) (moved : B → B → Type 0
           counters_in counters'' mid.engine.made page ≡ (after_bump place limit (counters_in counters' roomy.engine.made page)).1) →
           (CountersFit (terms_of history moved d n roomy) roomy counters' → roomy.engine.evidence ≡ None → (other : ℕ) → other ≢ page →
           counters_in counters'' mid.engine.made other ≡ counters_in counters' roomy.engine.made other) → CountedUp roomy mid counters'' outcome
-      counted_up taken went idle pads geometry few copies fits outcome_is now others =
+      counted_up taken idle pads geometry few copies fits outcome_is now others =
           let fit = roomy_fits got counters' had.reached unmoved moved_on roomy taken in
           let node = (roomy_reached got counters' had.reached unmoved moved_on roomy taken).node in
           let same_terms_now = roomy_terms got counters' had.reached unmoved moved_on roomy taken in
@@ -330,7 +332,7 @@ module _ {B T : Type 0} (history : B → BusHistory) (moved : B → B → Type 0
           come_idle terms page old got roomy counters counters' None (ap (λ (o : OutsideView B T). o.bus) taken) (ap (λ (o : OutsideView B T). o.engine.made) taken)
           (ap (λ (o : OutsideView B T). o.engine.evidence) taken) had.come in
           let up_idle =
-          reached_idle (terms_of history moved d n roomy) roomy counters' mid counters'' went
+          reached_idle (terms_of history moved d n roomy) roomy counters' mid counters'' unmoved
           (subst (λ (t : MemoryTerms B). AreConsistent t roomy) (sym same_terms_now) node.consistent)
           (subst (λ (t : MemoryTerms B). HaveLast t roomy) (sym same_terms_now) node.holds_last)
           (subst (λ (t : MemoryTerms B). HaveLastNodes t roomy) (sym same_terms_now) (node.nodes_hold_last (λ is. cc)))
@@ -345,14 +347,14 @@ module _ {B T : Type 0} (history : B → BusHistory) (moved : B → B → Type 0
                 (record {
                   few = few;
                   copies = copies fit;
-                  unread = λ quiet level index none. ap (λ (h : BusHistory). h.reads (node_place level index)) idle.0;
+                  unread = λ quiet level index none. ap (λ (b : B). (history b).reads (node_place level index)) idle.0;
                 });
             outcome_is = λ quiet. outcome_is fit (quiet_then quiet);
             now = λ quiet. now fit (quiet_then quiet);
             others = λ quiet. others fit (quiet_then quiet);
           }
 
-    module _ (unmoved : moved got.bus got.bus) (moved_on : (first second third : B) → moved first second → moved second third → moved first third)
+    module _ (unmoved : (bus : B) → moved bus [] bus) (moved_on : (first second third : B) (before after : List Access) → moved first before second → moved second after third → moved first (before ++ after) third)
         (roomy mid : OutsideView B T) (counters'' : CountersView) (outcome : Bumped) (up : CountedUp roomy mid counters'' outcome) where
       up_reached : IsReached terms old counters mid counters'' None
       up_reached = mid_reached got counters' had.reached unmoved moved_on roomy up.taken mid counters'' up.reached
@@ -455,7 +457,7 @@ module _ {B T : Type 0} (history : B → BusHistory) (moved : B → B → Type 0
             (used : new.pads ≡ after_encrypt line counter mid.pads)
             (made : new.engine ≡ after_make (line_message line counter (cipher_of mid.pads.key line counter bytes)) mid.engine)
             (undone : cipher_of mid.pads.key line counter (cipher_of mid.pads.key line counter bytes) ≡ bytes)
-            (moves : StepMoves (history mid.bus) mid.engine (history new.bus) new.engine) (went : moved mid.bus new.bus)
+            (moves : StepMoves (history mid.bus) mid.engine (history new.bus) new.engine)
             (honest : (used more : List (ℕ × Counter)) →
             IsAccounted (tags_of d n mid.engine) used mid.engine.made (history mid.bus) None mid.engine.evidence →
             IsAccounted (tags_of d n mid.engine) more new.engine.made (history new.bus) None new.engine.evidence) where
@@ -499,19 +501,20 @@ module _ {B T : Type 0} (history : B → BusHistory) (moved : B → B → Type 0
               (in_terms.entries ∙ ap (λ (u : List (ℕ × Counter)). u ++ (line, counter) ∷ []) up_reached.node.used) quiet)
               up_room.0 up_room.2 path_on (λ place is. absurd (untampered place is)) going up_come
 
-          pub line_written : HaveRisen terms old →
+          pub line_written : HaveRisen terms old → MakesAccesses moved (tags_of d n mid.engine) mid.bus mid.engine new.bus new.engine None →
               history new.bus ≡ after_write (line_place line) (sealed_line (tags_of d n mid.engine) line counter (cipher_of mid.pads.key line counter bytes)) (history mid.bus) →
               IsWrite terms limit line bytes old counters new counters'' None
-          line_written rose wrote =
+          line_written rose trace wrote =
               line_stops None (λ place is. cc) (λ going. refl) rose
               (one_sealed (terms_of history moved d n mid) (record { line = line; bytes = bytes; counter = counter }) mid new line (counter_in old.pads.used line) bytes
-              mid_kept (mid_rose rose) mid_last mid_inside had_it (inl (refl, refl)) used made undone moves went honest wrote)
+              mid_kept (mid_rose rose) mid_last mid_inside had_it (inl (refl, refl)) used made undone moves honest trace wrote)
 
-          pub line_unwritten : HaveRisen terms old → history new.bus ≡ history mid.bus → IsWrite terms limit line bytes old counters new counters'' (Some NoMemory)
-          line_unwritten rose same =
+          pub line_unwritten : HaveRisen terms old → MakesAccesses moved (tags_of d n mid.engine) mid.bus mid.engine new.bus new.engine (Some NoMemory) →
+              history new.bus ≡ history mid.bus → IsWrite terms limit line bytes old counters new counters'' (Some NoMemory)
+          line_unwritten rose trace same =
               line_stops (Some NoMemory) (λ place is. cc) (λ going. absurd (cc)) rose
               (one_unwritten (terms_of history moved d n mid) (record { line = line; bytes = bytes; counter = counter }) mid new line (counter_in old.pads.used line) bytes
-              mid_kept (mid_rose rose) mid_last mid_inside had_it (inl (refl, refl)) used made undone moves went honest same)
+              mid_kept (mid_rose rose) mid_last mid_inside had_it (inl (refl, refl)) used made undone moves honest trace same)
 
         -- The page counter went up
 

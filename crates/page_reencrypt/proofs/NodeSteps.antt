@@ -13,9 +13,11 @@ use Rattle.sec_base.specs.Geometry.{GeometryView, line_count}
 use Rattle.sec_base.specs.LastMessage.{data_pairs, data_part, last_data}
 use Rattle.sec_base.specs.Place.{zeros_of}
 use Rattle.sec_base.proofs.LastMessages.{last_of_other}
+use Rattle.bus_model.specs.Access.{Access}
 use Rattle.bus_model.specs.BusHistory.{BusHistory}
 use Rattle.tag_engine.specs.TagEngine.{TagEngineView, tags_of}
 use Rattle.checked_bus.specs.Accesses.{WritesMessages}
+use Rattle.checked_bus.specs.Makes.{MakesAccesses}
 use Rattle.checked_bus.specs.Steps.{Moves as StepMoves, SameLines}
 use Rattle.checked_bus.specs.Steps.{unwritten_in}
 use Rattle.checked_bus.proofs.Steps.{same_pairs}
@@ -104,7 +106,7 @@ module _ (tag_of : Message → List ℕ) (old new : BusHistory) (made made' : Li
     nodes = nodes;
   }
 
-module _ {B T : Type 0} (history : B → BusHistory) (moved : B → B → Type 0) (d n : T → List ℕ → List ℕ) (old : OutsideView B T)
+module _ {B T : Type 0} (history : B → BusHistory) (moved : B → List Access → B → Type 0) (d n : T → List ℕ → List ℕ) (old : OutsideView B T)
     (bus : B) (engine : TagEngineView T) where
   abbrev terms : MemoryTerms B
   terms = terms_of history moved d n old
@@ -113,15 +115,16 @@ module _ {B T : Type 0} (history : B → BusHistory) (moved : B → B → Type 0
   new = record { bus = bus; engine = engine; pads = old.pads }
 
   pub node_step : (tree : TreeView) (stop : Option MemStop) → tree.geometry ≡ old.engine.geometry →
-      AreConsistent terms old → HaveLast terms old → HaveLastNodes terms old → moved old.bus bus →
+      AreConsistent terms old → HaveLast terms old → HaveLastNodes terms old →
+      MakesAccesses moved terms.tag_of old.bus old.engine bus engine stop →
       StepMoves (history old.bus) old.engine (history bus) engine →
       SameLines (history old.bus) old.engine.made (history bus) engine.made →
       ((more : List Message) → engine.made ≡ old.engine.made ++ more → WritesMessages (history old.bus) (history bus) (length more) (unwritten_in stop)) →
       (NodesAreMade tree.geometry old.engine.made (history old.bus).written → NodesAreMade tree.geometry engine.made (history bus).written) →
       (NodesHoldLast tree.geometry old.engine.made (history old.bus).written → stop ≢ Some NoMemory → NodesHoldLast tree.geometry engine.made (history bus).written) →
       IsNodeStep terms old new stop
-  node_step tree stop geometry kept last nodes went moves lines writes made_blocks last_blocks = record {
-    bus = went;
+  node_step tree stop geometry kept last nodes trace moves lines writes made_blocks last_blocks = record {
+    trace = trace;
     step = record {
       bus_geometry = moves.bus_geometry;
       geometry = moves.geometry;

@@ -11,14 +11,17 @@ use Rattle.sec_base.specs.Count.{Rose, RoseBy}
 use Rattle.sec_base.specs.Geometry.{line_count, page_of}
 use Rattle.sec_base.specs.LastMessage.{data_pairs, last_data, last_node, IsFresh}
 use Rattle.sec_base.proofs.Results.{was_none}
+use Rattle.bus_model.specs.Access.{Access}
 use Rattle.bus_model.specs.BusHistory.{BusHistory}
 use Rattle.tag_engine.specs.TagEngine.{TagEngineView, with_room as tags_with_room}
 use Rattle.pad_stream.specs.Pad.{cipher_of}
 use Rattle.pad_stream.specs.PadEngine.{PadEngineView}
 use Rattle.pad_stream.specs.Pads.{AreRising}
 use Rattle.checked_bus.specs.Accesses.{WritesMessages}
+use Rattle.checked_bus.specs.Makes.{MakesAccesses}
 use Rattle.checked_bus.specs.Steps.{IsAccounted, Moves as StepMoves, SameLines}
 use Rattle.checked_bus.specs.Steps.{unwritten_in}
+use Rattle.checked_bus.proofs.Makes.{accesses_stopped}
 use Rattle.checked_bus.proofs.Steps.{counted_not, data_pairs-append, moves_on as step_on, same_lines_not, same_lines_on}
 use Rattle.split_counter.specs.CounterBlock.{last_counter, next_counter}
 use Rattle.bonsai_tree.specs.Node.{path_index}
@@ -32,6 +35,7 @@ use Rattle.page_reencrypt.specs.Contents.{HoldsLast, NodesSay, bytes_of, counter
 use Rattle.page_reencrypt.specs.Outside.{AreAccounted, AreConsistent, AreSealedInOrder, CountersFit, CountersSay, HaveLast, HaveLastNodes, HaveRisen, IsNodeStep, IsWrite, MemoryTerms, NodesSayStill, OutsideView, ShowsLies}
 use Rattle.page_reencrypt.specs.SealedLines.{AreReread, CopiesCame, KeepsFew}
 use Rattle.page_reencrypt.specs.Stops.{lasting_stop}
+use Rattle.page_reencrypt.proofs.MadeAccesses.{made_not, made_on, made_roomy}
 use Rattle.page_reencrypt.proofs.NodeSteps.{same_last_data}
 use Rattle.page_reencrypt.proofs.Nodes.{counters_same, fits_same, nodes_last, not_node}
 use Rattle.page_reencrypt.proofs.SayingNodes.{say_on}
@@ -186,13 +190,14 @@ module _ {B T : Type 0} (terms : MemoryTerms B) where
             ∙ a.unread (was_quiet quiet) level index (unmade_before second.engine.made third.engine.made more.more more.made level index none);
       }
 
-  pub node_step_on : ((first second third : B) → terms.moved first second → terms.moved second third → terms.moved first third) →
+  pub node_step_on : ((first second third : B) (before after : List Access) → terms.moved first before second → terms.moved second after third → terms.moved first (before ++ after) third) →
       (first second third : OutsideView B T) (stop : Option MemStop) → IsNodeStep terms first second None → IsNodeStep terms second third stop →
       IsNodeStep terms first third stop
   node_step_on moved_on first second third stop a b =
       let step = step_on (terms.history first.bus) (terms.history second.bus) (terms.history third.bus) first.engine second.engine third.engine a.step b.step in
       record {
-        bus = moved_on first.bus second.bus third.bus a.bus b.bus;
+        trace = made_on terms.moved terms.tag_of moved_on first.bus second.bus third.bus first.engine second.engine third.engine stop
+            a.step.geometry b.step.evidence a.trace b.trace;
         step = record {
           bus_geometry = step.bus_geometry;
           geometry = step.geometry;
@@ -231,7 +236,7 @@ module _ {B T : Type 0} (terms : MemoryTerms B) where
         | inr rose ↦ inr (omega (arith, rose, more.lies))
       ]
 
-  pub reached_on : ((first second third : B) → terms.moved first second → terms.moved second third → terms.moved first third) →
+  pub reached_on : ((first second third : B) (before after : List Access) → terms.moved first before second → terms.moved second after third → terms.moved first (before ++ after) third) →
       (first second third : OutsideView B T) (counters counters' counters'' : CountersView) (stop : Option MemStop) →
       IsReached first counters second counters' None → IsReached second counters' third counters'' stop → IsReached first counters third counters'' stop
   reached_on moved_on first second third counters counters' counters'' stop a b = record {
@@ -244,7 +249,7 @@ module _ {B T : Type 0} (terms : MemoryTerms B) where
   }
 
   -- memory was taken, or some of it
-  pub reached_roomy : (old new : OutsideView B T) (counters : CountersView) (stop : Option MemStop) (messages : ℕ) (pads : PadEngineView) → terms.moved old.bus old.bus →
+  pub reached_roomy : (old new : OutsideView B T) (counters : CountersView) (stop : Option MemStop) (messages : ℕ) (pads : PadEngineView) → ((bus : B) → terms.moved bus [] bus) →
       AreConsistent terms old → HaveLast terms old → HaveLastNodes terms old → CountersFit terms old counters → ((place : Place) → stop ≢ Some (Tampered place)) →
       pads.used ≡ old.pads.used → pads.key ≡ old.pads.key →
       new ≡ record { bus = old.bus; engine = tags_with_room messages old.engine; pads = pads } → IsReached old counters new counters stop
@@ -253,7 +258,7 @@ module _ {B T : Type 0} (terms : MemoryTerms B) where
       subst (λ (o : OutsideView B T). IsReached old counters o counters stop) (sym is)
       (record {
         node = record {
-          bus = unmoved;
+          trace = made_roomy terms.moved terms.tag_of unmoved old.bus old.engine messages stop untampered;
           step = record {
             bus_geometry = refl;
             geometry = refl;
@@ -284,17 +289,20 @@ module _ {B T : Type 0} (terms : MemoryTerms B) where
       })
 
   -- counters were counted up on the chip
-  pub reached_idle : (old : OutsideView B T) (counters : CountersView) (new : OutsideView B T) (counters' : CountersView) → terms.moved old.bus new.bus →
+  pub reached_idle : (old : OutsideView B T) (counters : CountersView) (new : OutsideView B T) (counters' : CountersView) → ((bus : B) → terms.moved bus [] bus) →
       AreConsistent terms old → HaveLast terms old → HaveLastNodes terms old →
-      (same : terms.history new.bus ≡ terms.history old.bus) (engine : new.engine ≡ old.engine) (pads : new.pads ≡ old.pads) →
+      (bus : new.bus ≡ old.bus) (engine : new.engine ≡ old.engine) (pads : new.pads ≡ old.pads) →
       counters'.tree.geometry ≡ counters.tree.geometry → CountersFit terms new counters' → IsReached old counters new counters' None
-  reached_idle old counters new counters' went kept last nodes same engine pads geometry fits =
+  reached_idle old counters new counters' unmoved kept last nodes bus engine pads geometry fits =
+      let same : terms.history new.bus ≡ terms.history old.bus = ap terms.history bus in
       let written : (terms.history new.bus).written ≡ (terms.history old.bus).written = ap (λ (h : BusHistory). h.written) same in
       let made : new.engine.made ≡ old.engine.made = ap (λ (e : TagEngineView T). e.made) engine in
       let used : new.pads.used ≡ old.pads.used = ap (λ (p : PadEngineView). p.used) pads in
       record {
         node = record {
-          bus = went;
+          trace = subst (λ (b : B). MakesAccesses terms.moved terms.tag_of old.bus old.engine b new.engine None) (sym bus)
+              (subst (λ (e : TagEngineView T). MakesAccesses terms.moved terms.tag_of old.bus old.engine old.bus e None) (sym engine)
+              (made_not terms.moved terms.tag_of unmoved old.bus old.engine None (λ place is. cc)));
           step = record {
             bus_geometry = ap (λ (h : BusHistory). h.geometry) same;
             geometry = ap (λ (e : TagEngineView T). e.geometry) engine;
@@ -337,7 +345,8 @@ module _ {B T : Type 0} (terms : MemoryTerms B) where
       IsReached old counters new counters' None → IsReached old counters new counters' (Some (Spent page))
   reached_spent old counters new counters' page is = record {
     node = record {
-      bus = is.node.bus;
+      trace = accesses_stopped terms.moved terms.tag_of old.bus new.bus old.engine new.engine None (Some (Spent page)) (omega arith) (λ place is. absurd (cc))
+          is.node.trace;
       step = is.node.step;
       pairs = is.node.pairs;
       lines = is.node.lines;
@@ -383,7 +392,7 @@ module _ {B T : Type 0} (terms : MemoryTerms B) where
         × ((terms.history new.bus).accesses ≤ (terms.history old.bus).accesses + counter_accesses terms.geometry.levels)) →
         HasCome (page_of line) old counters new counters' stop → IsWrite terms limit line bytes old counters new counters' stop
     early_write limit line bytes rose stopped say reserved tampered spent used_up come = record {
-      bus = reached.node.bus;
+      trace = reached.node.trace;
       step = reached.node.step;
       geometry = reached.geometry;
       key = reached.node.key;
@@ -504,7 +513,7 @@ module _ {B T : Type 0} (terms : MemoryTerms B) where
           | inr rose ↦ let before = reached.node.step.reads (line_place other) in inr (omega (arith, rose, before))
         ]
 
-    pub late_write : ((first second third : B) → terms.moved first second → terms.moved second third → terms.moved first third) → (limit : ℕ) → (new.engine.evidence ≡ None → counter ≡ next_counter (counter_in old.pads.used line)) →
+    pub late_write : ((first second third : B) (before after : List Access) → terms.moved first before second → terms.moved second after third → terms.moved first (before ++ after) third) → (limit : ℕ) → (new.engine.evidence ≡ None → counter ≡ next_counter (counter_in old.pads.used line)) →
         (new.engine.evidence ≡ None → counter_in old.pads.used line ≢ last_counter limit) →
         (stop ≡ None → CountersSay terms new counters') → 64 ≤ mid.pads.room → length old.engine.made + 64 ≤ length mid.engine.made + mid.engine.room →
         (mid.engine.evidence ≡ None → ¬ Contains (cached_pages counters) (page_of line) →
@@ -512,7 +521,8 @@ module _ {B T : Type 0} (terms : MemoryTerms B) where
         ((place : Place) → stop ≡ Some (Tampered place) → counter.line ≡ 0) → (lasting_stop stop ≡ None → stop ≡ None) →
         HasCome (page_of line) old counters mid counters' None → IsWrite terms limit line bytes old counters new counters' stop
     late_write moved_on limit next below say entries_room room path overflow going come = record {
-      bus = moved_on old.bus mid.bus new.bus reached.node.bus sealed.sealed.bus;
+      trace = made_on terms.moved terms.tag_of moved_on old.bus mid.bus new.bus old.engine mid.engine new.engine stop
+          reached.node.step.geometry sealed.sealed.step.evidence reached.node.trace sealed.sealed.trace;
       step = whole_step;
       geometry = reached.geometry;
       key = sealed.sealed.key ∙ reached.node.key;

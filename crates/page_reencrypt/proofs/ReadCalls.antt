@@ -12,10 +12,12 @@ use Rattle.sec_base.specs.LastMessage.{data_pairs, last_data}
 use Rattle.sec_base.specs.Lines.{line_at}
 use Rattle.sec_base.proofs.JoinedLines.{joined_lines-same, line_at-joined_lines}
 use Rattle.sec_base.proofs.Results.{stop_is, was_none}
+use Rattle.bus_model.specs.Access.{Access}
 use Rattle.bus_model.specs.BusHistory.{BusHistory}
 use Rattle.tag_engine.specs.TagEngine.{TagEngineView, tags_of}
 use Rattle.pad_stream.specs.PadEngine.{PadEngineView}
 use Rattle.pad_stream.specs.Pads.{AreRising}
+use Rattle.checked_bus.specs.Makes.{MakesAccesses}
 use Rattle.checked_bus.specs.Steps.{IsAccounted}
 use Rattle.checked_bus.specs.Steps.{unwritten_in}
 use Rattle.split_counter.specs.CounterBlock.{counter_of, place_of}
@@ -24,9 +26,10 @@ use Rattle.page_reencrypt.specs.Contents.{ArePaged, AreUnskipped, AreWithin, IsS
 use Rattle.page_reencrypt.specs.LineLengths.{length-line_bytes}
 use Rattle.page_reencrypt.specs.LineMoves.{ReadMoved}
 use Rattle.page_reencrypt.specs.Outside.{CountersSay, IsLineRead, MemoryTerms, OutsideView, outside_of, terms_of}
-use Rattle.page_reencrypt.specs.SealedLines.{AreOfPages, AreProtected, CountersRise, IsLineOf, IsUnsealed, SealedLinesView, contents}
+use Rattle.page_reencrypt.specs.SealedLines.{AreOfPages, AreProtected, CountersRise, IsLineOf, SealedLinesView, contents}
 use Rattle.page_reencrypt.specs.Stops.{lasting_stop}
-use Rattle.page_reencrypt.proofs.Kept.{none_before, protected_after, stop_accounted, stop_lasts, stop_memory, stop_spent, stop_unwritten}
+use Rattle.page_reencrypt.specs.UnderCounters.{ReadUnderCounters}
+use Rattle.page_reencrypt.proofs.Kept.{none_before, protected_after, stop_accesses, stop_accounted, stop_lasts, stop_memory, stop_spent, stop_unwritten}
 use Rattle.page_reencrypt.proofs.Moves.{moves_not}
 use Rattle.page_reencrypt.proofs.NodeSteps.{last_data-nodes}
 use Rattle.page_reencrypt.proofs.Reaching.{came_not, few_not}
@@ -46,8 +49,8 @@ lasts_again stopped stop lasting none =
     let same : lasting_stop (Some stop) ≡ Some stop = subst (λ (s : Option MemStop). lasting_stop s ≡ Some stop) (lasts_itself stopped stop lasting) lasting in cc
 
 -- after a stop that lasts
-pub lasting_read : {B T : Type 0} (history : B → BusHistory) (bus_moved : B → B → Type 0) (tags : TagEngineView T → Message → List ℕ) →
-    ((bus : B) → bus_moved bus bus) → (lines : SealedLinesView B T) (line : ℕ) (stop : MemStop) →
+pub lasting_read : {B T : Type 0} (history : B → BusHistory) (bus_moved : B → List Access → B → Type 0) (tags : TagEngineView T → Message → List ℕ) →
+    ((bus : B) → bus_moved bus [] bus) → (lines : SealedLinesView B T) (line : ℕ) (stop : MemStop) →
     lasting_stop lines.stopped ≡ Some stop → ReadMoved history bus_moved tags lines line (Err stop) lines
 lasting_read history bus_moved tags bus_unmoved lines line stop lasting = record {
   moves = moves_not history bus_moved tags (IsLineOf lines) bus_unmoved lines;
@@ -59,16 +62,7 @@ lasting_read history bus_moved tags bus_unmoved lines line stop lasting = record
   cached = tt;
   fits = λ going quiet. absurd (cc);
   outside = λ going. absurd (cc);
-}
-
-pub unsealed_not : {B T : Type 0} (history : B → BusHistory) (lines : SealedLinesView B T) → IsUnsealed history lines lines
-unfolding data_pairs
-unsealed_not history lines = record {
-  unused = refl;
-  more = [];
-  messages = sym (append-nil lines.engine.made);
-  untagged = refl;
-  unwritten_to = λ line. refl;
+  under = λ going. absurd (cc);
 }
 
 -- the bytes of a line are those that the contents have there
@@ -87,7 +81,7 @@ contents_same key key' geometry geometry' made more made' same_key same_geometry
     ∙ joined_lines-same (line_bytes key made') (line_bytes key made) (line_count geometry)
     (λ line inside. ap (bytes_of key line) (ap (last_data line) grew ∙ last_data-nodes made more line none))
 
-module _ {B T : Type 0} (d n : T → List ℕ → List ℕ) (history : B → BusHistory) (bus_moved : B → B → Type 0) (m : SealedLinesView B T) (line : ℕ)
+module _ {B T : Type 0} (d n : T → List ℕ → List ℕ) (history : B → BusHistory) (bus_moved : B → List Access → B → Type 0) (m : SealedLinesView B T) (line : ℕ)
     (kept : AreProtected d n history m) (going : lasting_stop m.stopped ≡ None) (inside : line < line_count m.engine.geometry)
     (new : OutsideView B T) (counters : CountersView) (result : Result (List ℕ) MemStop)
     (r : IsLineRead (terms_of history bus_moved d n (outside_of m)) line (outside_of m) m.counters new counters result)
@@ -149,21 +143,14 @@ module _ {B T : Type 0} (d n : T → List ℕ → List ℕ) (history : B → Bus
       contents_same m.pads.key new.pads.key m.engine.geometry new.engine.geometry m.engine.made r.step.more new.engine.made
       (ap (λ (p : PadEngineView). p.key) r.pads) r.step.geometry r.step.made r.pairs
 
-  pub read_unsealed : IsUnsealed history m after
-  read_unsealed = record {
-    unused = same_used;
-    more = r.step.more;
-    messages = r.step.made;
-    untagged = r.pairs;
-    unwritten_to = r.written;
-  }
-
   -- how it moves
   pub read_moved : AreOfPages m.engine.geometry counters → OnOk result (Contains (cached_pages counters) (page_of line)) →
+      ReadUnderCounters history bus_moved (tags_of d n) line (outside_of m) m.counters new counters result →
       ReadMoved history bus_moved (tags_of d n) m line result after
-  read_moved pages cached = record {
+  read_moved pages cached under = record {
     moves = record {
-      bus = r.bus;
+      trace = λ going_on. subst (λ (s : Option MemStop). MakesAccesses bus_moved (tags_of d n m.engine) m.bus m.engine new.bus new.engine s) (sym stops)
+          (stop_accesses m.stopped going bus_moved (tags_of d n m.engine) m.bus new.bus m.engine new.engine (result_err result) r.trace);
       step = r.step;
       key = ap (λ (p : PadEngineView). p.key) r.pads;
       limit = refl;
@@ -197,4 +184,5 @@ module _ {B T : Type 0} (d n : T → List ℕ → List ℕ) (history : B → Bus
     cached = cached;
     fits = (read_kept pages).fits;
     outside = λ going. r;
+    under = λ going. under;
   }

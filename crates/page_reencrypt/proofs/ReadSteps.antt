@@ -1,5 +1,5 @@
 -- The steps of a read of a line: its page's counters are had, and then its place is read.
-use Rattle.std.proofs.Common.{◌≡◌, ◌≢◌, ◌⊎◌, inl, inr, ℕ, ◌+◌, ◌<◌, ◌≤◌, List, length, Option, Some, None, Contains, Result, Ok, Err, IfOk, IsOk, refl, ap, sym, ◌∙◌, subst, arith}
+use Rattle.std.proofs.Common.{◌≡◌, ◌≢◌, ◌⊎◌, inl, inr, ℕ, ◌+◌, ◌<◌, ◌≤◌, List, ◌++◌, length, Option, Some, None, Contains, Result, Ok, Err, IfOk, IsOk, refl, ap, sym, ◌∙◌, subst, arith}
 use Rattle.std.specs.Result.{result_err}
 use Rattle.std.proofs.lemmas.Option.{same_Some}
 use Rattle.sec_base.specs.declared.counter.Counter.{Counter}
@@ -16,13 +16,16 @@ use Rattle.sec_base.specs.Evidence.{evidence_place}
 use Rattle.sec_base.specs.Geometry.{GeometryView, line_count, page_of}
 use Rattle.sec_base.specs.LastMessage.{IsFresh, last_node}
 use Rattle.sec_base.proofs.Results.{if_ok, was_none}
+use Rattle.bus_model.specs.Access.{Access}
 use Rattle.bus_model.specs.BusHistory.{BusHistory}
 use Rattle.tag_engine.specs.TagEngine.{tags_of}
 use Rattle.pad_stream.specs.Pad.{cipher_of}
 use Rattle.pad_stream.specs.PadEngine.{PadEngineView}
 use Rattle.checked_bus.specs.Accesses.{AreCounted}
+use Rattle.checked_bus.specs.Makes.{MakesAccesses}
 use Rattle.checked_bus.specs.Steps.{Moves as StepMoves}
 use Rattle.checked_bus.specs.Steps.{unwritten_in}
+use Rattle.checked_bus.proofs.Makes.{accesses_on}
 use Rattle.checked_bus.proofs.Steps.{moves_on as step_on}
 use Rattle.split_counter.specs.CounterBlock.{CounterBlockView, block_of, counter_of, place_of}
 use Rattle.bonsai_tree.specs.Tree.{IsFetchPlace, PathWasRead}
@@ -77,7 +80,7 @@ had_on tag_of counters counters' made made' page before mid after block was unma
   spelled = was.spelled;
 }
 
-module _ {B T : Type 0} (history : B → BusHistory) (moved : B → B → Type 0) (d n : T → List ℕ → List ℕ) (old : OutsideView B T) (counters : CountersView) (line page : ℕ)
+module _ {B T : Type 0} (history : B → BusHistory) (moved : B → List Access → B → Type 0) (d n : T → List ℕ → List ℕ) (old : OutsideView B T) (counters : CountersView) (line page : ℕ)
     (page_is : page ≡ page_of line) where
   abbrev terms : MemoryTerms B
   terms = terms_of history moved d n old
@@ -92,7 +95,7 @@ module _ {B T : Type 0} (history : B → BusHistory) (moved : B → B → Type 0
       × (old.engine.evidence ≡ None → Rose (history old.bus).lies (history new.bus).lies)) →
       ((spent : ℕ) → why ≢ Spent spent) → HasCome terms page old counters new counters' (Some why) → IsLineRead terms line old counters new counters' (Err why)
   unread new counters' why reached pads once still same found tampered unspent come = record {
-    bus = reached.node.bus;
+    trace = reached.node.trace;
     step = reached.node.step;
     pairs = reached.node.pairs;
     geometry = reached.geometry;
@@ -192,7 +195,9 @@ module _ {B T : Type 0} (history : B → BusHistory) (moved : B → B → Type 0
         ((made_at : ℕ) (bytes tag : List ℕ) → old.engine.evidence ≡ None →
         got.engine.evidence ≡ Some (Collision 0 page made_at bytes tag) → block ≡ block_of bytes) →
         AreHad terms.tag_of counters counters' got.engine.made page old.engine.evidence got.engine.evidence block →
-        moved old.bus new.bus → AreCounted (history got.bus) (history new.bus) 0 → (history new.bus).accesses ≤ (history got.bus).accesses + 1 →
+        ((first second third : B) (before after : List Access) → moved first before second → moved second after third → moved first (before ++ after) third) →
+        MakesAccesses moved (tags_of d n got.engine) got.bus got.engine new.bus new.engine (result_err result) →
+        AreCounted (history got.bus) (history new.bus) 0 → (history new.bus).accesses ≤ (history got.bus).accesses + 1 →
         ((other : ℕ) → other ≢ line → (history new.bus).reads (line_place other) ≡ (history got.bus).reads (line_place other)) →
         (new.engine.evidence ≡ None → IfOk result (λ bytes. bytes ≡ line_bytes got.pads.key got.engine.made line)) →
         (got.engine.evidence ≡ None → IsFresh line got.pads.used → IsOk result × (new ≡ got)) →
@@ -208,8 +213,9 @@ module _ {B T : Type 0} (history : B → BusHistory) (moved : B → B → Type 0
         ((place : Place) → result ≡ Err (Tampered place) → (place ≡ line_place line)
         × (got.engine.evidence ≡ None → Rose (history got.bus).lies (history new.bus).lies)) →
         ((spent : ℕ) → result ≢ Err (Spent spent)) → IsLineRead terms line old counters new counters' result
-    line_read got_once still same come path node_found node_accepted had went counted once alone value fresh rose accounted shows found under accepted tampered unspent = record {
-      bus = went;
+    line_read got_once still same come path node_found node_accepted had moved_on trace counted once alone value fresh rose accounted shows found under accepted tampered unspent = record {
+      trace = accesses_on moved d n moved_on old.bus got.bus new.bus old.engine got.engine new.engine (result_err result)
+          a.node.step.geometry a.node.step.tagger r.evidence a.node.trace trace;
       step = whole_step;
       pairs = a.node.pairs;
       geometry = a.geometry;

@@ -19,12 +19,14 @@ use Rattle.sec_base.specs.Count.{Rose}
 use Rattle.sec_base.specs.Geometry.{GeometryView, line_count, page_of}
 use Rattle.sec_base.specs.LastMessage.{IsFresh, last_pair}
 use Rattle.sec_base.proofs.Results.{stop_is, was_none}
+use Rattle.bus_model.specs.Access.{Access}
 use Rattle.bus_model.specs.BusHistory.{BusHistory, after_write}
 use Rattle.tag_engine.specs.TagEngine.{after_make, tags_of}
 use Rattle.pad_stream.specs.Pad.{cipher_of}
 use Rattle.pad_stream.specs.PadEngine.{PadEngineView, after_encrypt}
 use Rattle.pad_stream.specs.Pads.{IsBefore}
 use Rattle.checked_bus.specs.Accesses.{AreCounted}
+use Rattle.checked_bus.specs.Makes.{MakesAccesses}
 use Rattle.checked_bus.specs.SealedLine.{sealed_line}
 use Rattle.checked_bus.specs.Steps.{IsAccounted, Moves as StepMoves}
 use Rattle.checked_bus.proofs.Evidences.{by_evidence}
@@ -35,6 +37,7 @@ use Rattle.page_reencrypt.specs.Contents.{line_bytes, page_lines}
 use Rattle.page_reencrypt.specs.Outside.{Accepts, AreAccounted, AreConsistent, AreSealed, AreSealedInOrder, HasCounter, HaveLast, HaveRisen, IsAcceptedBeside, LineWrite, MemoryTerms, OutsideView, ShowsLies, terms_of}
 use Rattle.page_reencrypt.specs.SealedLines.{AreReread}
 use Rattle.page_reencrypt.proofs.Consistency.{last_pair-other}
+use Rattle.page_reencrypt.proofs.MadeAccesses.{made_not}
 use Rattle.page_reencrypt.proofs.Sealing.{all_in_order, listed_not, listed_one, listed_or_not, one_sealed, one_unwritten, only_read, same_terms, sealed_on}
 
 -- Numbers that follow one another
@@ -141,21 +144,22 @@ module _ (line place start at before mid new : ℕ) (start_is : start ≡ 64 * p
         | inr early ↦ omega (arith, two, most, below, early)
       ]
 
-module _ {B T : Type 0} (history : B → BusHistory) (moved : B → B → Type 0) (d n : T → List ℕ → List ℕ) (write : LineWrite) (old : OutsideView B T)
+module _ {B T : Type 0} (history : B → BusHistory) (moved : B → List Access → B → Type 0) (d n : T → List ℕ → List ℕ) (write : LineWrite) (old : OutsideView B T)
     (kept : AreConsistent (terms_of history moved d n old) old) (rose : HaveRisen (terms_of history moved d n old) old)
     (last : HaveLast (terms_of history moved d n old) old) where
   abbrev terms : OutsideView B T → MemoryTerms B
   terms = terms_of history moved d n
 
   -- nothing was done yet
-  pub sealed_none : moved old.bus old.bus → AreSealed (terms old) write old [] old None
+  pub sealed_none : ((bus : B) → moved bus [] bus) → AreSealed (terms old) write old [] old None
   sealed_none unmoved =
-      only_read (terms old) write old old None unmoved (step_not (history old.bus) old.engine) refl (omega arith) refl refl (λ level index. refl) (counted_not (history old.bus)) kept rose last
+      only_read (terms old) write old old None (made_not moved (tags_of d n old.engine) unmoved old.bus old.engine None (λ place is. cc)) (step_not (history old.bus) old.engine) refl (omega arith) refl refl (λ level index. refl) (counted_not (history old.bus)) kept rose last
       (λ was. was) (λ quiet. inl quiet) (λ place is. absurd (cc)) (λ page is. cc)
 
   -- another line of the page was read
   pub read_sealed : (at : ℕ) (new : OutsideView B T) (result : Result (List ℕ) MemStop) → at ≢ write.line → page_of at ≡ page_of write.line →
-      moved old.bus new.bus → StepMoves (history old.bus) old.engine (history new.bus) new.engine → new.engine.made ≡ old.engine.made →
+      MakesAccesses moved (tags_of d n old.engine) old.bus old.engine new.bus new.engine (result_err result) →
+      StepMoves (history old.bus) old.engine (history new.bus) new.engine → new.engine.made ≡ old.engine.made →
       new.engine.room ≡ old.engine.room → new.pads ≡ old.pads → (history new.bus).written ≡ (history old.bus).written →
       ((level index : ℕ) → (history new.bus).reads (node_place level index) ≡ (history old.bus).reads (node_place level index)) →
       AreCounted (history old.bus) (history new.bus) 0 →
@@ -164,8 +168,8 @@ module _ {B T : Type 0} (history : B → BusHistory) (moved : B → B → Type 0
       ((place : Place) → result ≡ Err (Tampered place) → (place ≡ line_place at)
       × (old.engine.evidence ≡ None → Rose (history old.bus).lies (history new.bus).lies)) →
       ((page : ℕ) → result ≢ Err (Spent page)) → AreSealed (terms old) write old [] new (result_err result)
-  read_sealed at new result apart of_page went moves made room pads written unread counted accounted shows tampered unspent =
-      only_read (terms old) write old new (result_err result) went moves made (omega (arith, room)) pads written unread counted kept rose last accounted shows
+  read_sealed at new result apart of_page trace moves made room pads written unread counted accounted shows tampered unspent =
+      only_read (terms old) write old new (result_err result) trace moves made (omega (arith, room)) pads written unread counted kept rose last accounted shows
       (λ place is.
       let there = tampered place (stop_is result (Tampered place) is) in
       (record { other = at; place_is = there.0; of_page = of_page; apart = apart }, there.1))
@@ -196,7 +200,7 @@ module _ {B T : Type 0} (history : B → BusHistory) (moved : B → B → Type 0
     pub held : ((at ≡ write.line) × (plain ≡ write.bytes))
         ⊎ ((at ≢ write.line) × (mid.engine.evidence ≡ None → plain ≡ line_bytes old.pads.key old.engine.made at))
 
-  pub ready_own : (at : ℕ) (plain : List ℕ) → moved old.bus old.bus → at ≡ write.line → plain ≡ write.bytes → IsReady at plain old
+  pub ready_own : (at : ℕ) (plain : List ℕ) → ((bus : B) → moved bus [] bus) → at ≡ write.line → plain ≡ write.bytes → IsReady at plain old
   ready_own at plain unmoved same bytes = record {
     sealed = sealed_none unmoved;
     made = refl;
@@ -225,11 +229,11 @@ module _ {B T : Type 0} (history : B → BusHistory) (moved : B → B → Type 0
       (used : new.pads ≡ after_encrypt at write.counter mid.pads)
       (made : new.engine ≡ after_make (Line at write.counter (cipher_of mid.pads.key at write.counter plain)) mid.engine)
       (undone : cipher_of mid.pads.key at write.counter (cipher_of mid.pads.key at write.counter plain) ≡ plain)
-      (moves : StepMoves (history mid.bus) mid.engine (history new.bus) new.engine) (went : moved mid.bus new.bus)
+      (moves : StepMoves (history mid.bus) mid.engine (history new.bus) new.engine)
       (honest : (used more : List (ℕ × Counter)) →
       IsAccounted (tags_of d n mid.engine) used mid.engine.made (history mid.bus) None mid.engine.evidence →
       IsAccounted (tags_of d n mid.engine) more new.engine.made (history new.bus) None new.engine.evidence)
-      (moved_on : (first second third : B) → moved first second → moved second third → moved first third) where
+      (moved_on : (first second third : B) (before after : List Access) → moved first before second → moved second after third → moved first (before ++ after) third) where
     same : terms mid ≡ terms old
     same = same_terms history moved d n old mid ready.sealed.step.tagger ready.sealed.step.geometry
 
@@ -281,23 +285,25 @@ module _ {B T : Type 0} (history : B → BusHistory) (moved : B → B → Type 0
         reread untampered
 
     -- the line was sealed and written
-    pub line_sealed : history new.bus ≡ after_write (line_place at) (sealed_line (tags_of d n mid.engine) at write.counter (cipher_of mid.pads.key at write.counter plain)) (history mid.bus) →
+    pub line_sealed : MakesAccesses moved (tags_of d n mid.engine) mid.bus mid.engine new.bus new.engine None →
+        history new.bus ≡ after_write (line_place at) (sealed_line (tags_of d n mid.engine) at write.counter (cipher_of mid.pads.key at write.counter plain)) (history mid.bus) →
         AreSealedInOrder (terms old) write old (at ∷ []) new None
-    line_sealed wrote =
+    line_sealed trace wrote =
         after_ready None
-        (one_sealed (terms mid) write mid new at previous plain kept_mid rose_mid last_mid inside_mid had_mid held_mid used made undone moves went honest wrote)
+        (one_sealed (terms mid) write mid new at previous plain kept_mid rose_mid last_mid inside_mid had_mid held_mid used made undone moves honest trace wrote)
         (λ place is. cc)
 
     -- there was no memory to write it
-    pub line_unwritten : history new.bus ≡ history mid.bus → AreSealedInOrder (terms old) write old (at ∷ []) new (Some NoMemory)
-    line_unwritten unwritten =
+    pub line_unwritten : MakesAccesses moved (tags_of d n mid.engine) mid.bus mid.engine new.bus new.engine (Some NoMemory) →
+        history new.bus ≡ history mid.bus → AreSealedInOrder (terms old) write old (at ∷ []) new (Some NoMemory)
+    line_unwritten trace unwritten =
         after_ready (Some NoMemory)
-        (one_unwritten (terms mid) write mid new at previous plain kept_mid rose_mid last_mid inside_mid had_mid held_mid used made undone moves went honest unwritten)
+        (one_unwritten (terms mid) write mid new at previous plain kept_mid rose_mid last_mid inside_mid had_mid held_mid used made undone moves honest trace unwritten)
         (λ place is. cc)
 
 -- A page is encrypted anew line by line: those at the places below this one were sealed.
 
-module _ {B T : Type 0} (history : B → BusHistory) (moved : B → B → Type 0) (d n : T → List ℕ → List ℕ) (write : LineWrite) (old mid : OutsideView B T)
+module _ {B T : Type 0} (history : B → BusHistory) (moved : B → List Access → B → Type 0) (d n : T → List ℕ → List ℕ) (write : LineWrite) (old mid : OutsideView B T)
     (first place : ℕ) (sealed : AreSealed (terms_of history moved d n old) write old (range_with_len first place) mid None)
     (reread : mid.engine.evidence ≡ None → AreReread write.line (range_with_len first place) old.pads.used (history old.bus) (history mid.bus)) where
   mid_terms : terms_of history moved d n mid ≡ terms_of history moved d n old
@@ -370,7 +376,7 @@ module _ {B T : Type 0} (history : B → BusHistory) (moved : B → B → Type 0
         same_Some evidence (Forgery found under answer made_count) (sym (stays evidence some) ∙ is) in
         before found under answer made_count quiet (some ∙ ap (λ (e : Evidence). Some e) same))
 
-    module _ (moved_on : (first second third : B) → moved first second → moved second third → moved first third) (new : OutsideView B T) (stop : Option MemStop)
+    module _ (moved_on : (first second third : B) (before after : List Access) → moved first before second → moved second after third → moved first (before ++ after) third) (new : OutsideView B T) (stop : Option MemStop)
         (is : AreSealedInOrder (terms_of history moved d n mid) write mid (at ∷ []) new stop) where
       page_on : AreSealed (terms_of history moved d n old) write old (range_with_len first (place + is.count)) new stop
       page_on =

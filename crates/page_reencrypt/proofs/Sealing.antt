@@ -15,6 +15,7 @@ use Rattle.sec_base.specs.Geometry.{GeometryView, line_count}
 use Rattle.sec_base.specs.LastMessage.{data_pairs, last_data, last_node}
 use Rattle.sec_base.proofs.SamePlaces.{at_place-there}
 use Rattle.sec_base.proofs.Results.{was_none}
+use Rattle.bus_model.specs.Access.{Access}
 use Rattle.bus_model.specs.BusHistory.{BusHistory, after_write}
 use Rattle.tag_engine.specs.TagEngine.{TagEngineView, after_make, tags_of}
 use Rattle.pad_stream.specs.Pad.{cipher_of}
@@ -22,6 +23,7 @@ use Rattle.pad_stream.specs.PadEngine.{PadEngineView, after_encrypt}
 use Rattle.pad_stream.specs.Pads.{AreRising, IsBefore}
 use Rattle.pad_stream.proofs.Enciphering.{length-cipher_of}
 use Rattle.checked_bus.specs.Accesses.{AreCounted}
+use Rattle.checked_bus.specs.Makes.{MakesAccesses}
 use Rattle.checked_bus.specs.SealedLine.{sealed_line}
 use Rattle.checked_bus.specs.Steps.{IsAccounted, Moves as StepMoves}
 use Rattle.checked_bus.specs.Steps.{unwritten_in}
@@ -33,12 +35,13 @@ use Rattle.page_reencrypt.specs.Consistency.{IsConsistent}
 use Rattle.page_reencrypt.specs.Outside.{AreAccounted, AreConsistent, AreSealed, AreSealedInOrder, HasCounter, HaveLast, HaveRisen, LineWrite, MemoryTerms, OutsideView, ShowsLies, terms_of}
 use Rattle.page_reencrypt.specs.SealedLines.{AreReread, IsBeside}
 use Rattle.page_reencrypt.proofs.Consistency.{risen_more, unwritten_consistent, written_consistent, written_last}
+use Rattle.page_reencrypt.proofs.MadeAccesses.{made_on}
 use Rattle.page_reencrypt.proofs.Nodes.{last_node-line, node_there}
 use Rattle.page_reencrypt.proofs.Stops.{other_stop}
 use Rattle.page_reencrypt.proofs.Unmade.{same_consistent, same_tags}
 
 -- A memory is seen alike before and after a call.
-pub same_terms : {B T : Type 0} (history : B → BusHistory) (moved : B → B → Type 0) (d n : T → List ℕ → List ℕ) (old new : OutsideView B T) →
+pub same_terms : {B T : Type 0} (history : B → BusHistory) (moved : B → List Access → B → Type 0) (d n : T → List ℕ → List ℕ) (old new : OutsideView B T) →
     new.engine.tagger ≡ old.engine.tagger → new.engine.geometry ≡ old.engine.geometry → terms_of history moved d n new ≡ terms_of history moved d n old
 same_terms {B} {T} history moved d n old new tagger geometry =
     ap (λ (t : Message → List ℕ). let m : MemoryTerms B = record { history = history; moved = moved; tag_of = t; geometry = new.engine.geometry } in m)
@@ -94,7 +97,7 @@ one_pair line counter cipher = refl
 
 module _ {B T : Type 0} (terms : MemoryTerms B) (write : LineWrite) where
   -- nothing was done but a read, or not even that
-  pub only_read : (old new : OutsideView B T) (stop : Option MemStop) → terms.moved old.bus new.bus →
+  pub only_read : (old new : OutsideView B T) (stop : Option MemStop) → MakesAccesses terms.moved terms.tag_of old.bus old.engine new.bus new.engine stop →
       StepMoves (terms.history old.bus) old.engine (terms.history new.bus) new.engine → new.engine.made ≡ old.engine.made →
       old.engine.room ≤ new.engine.room → new.pads ≡ old.pads → (terms.history new.bus).written ≡ (terms.history old.bus).written →
       ((level index : ℕ) → (terms.history new.bus).reads (node_place level index) ≡ (terms.history old.bus).reads (node_place level index)) →
@@ -103,8 +106,8 @@ module _ {B T : Type 0} (terms : MemoryTerms B) (write : LineWrite) where
       ((place : Place) → stop ≡ Some (Tampered place) → IsBeside write.line place
       × (old.engine.evidence ≡ None → Rose (terms.history old.bus).lies (terms.history new.bus).lies)) →
       ((page : ℕ) → stop ≢ Some (Spent page)) → AreSealed terms write old [] new stop
-  only_read old new stop moved moves made room pads written unread counted kept risen last accounted shows tampered unspent = record {
-    bus = moved;
+  only_read old new stop trace moves made room pads written unread counted kept risen last accounted shows tampered unspent = record {
+    trace = trace;
     step = record {
       bus_geometry = moves.bus_geometry;
       geometry = moves.geometry;
@@ -160,7 +163,7 @@ module _ {B T : Type 0} (terms : MemoryTerms B) (write : LineWrite) where
       (used : new.pads ≡ after_encrypt at write.counter old.pads)
       (made : new.engine ≡ after_make (Line at write.counter (cipher_of old.pads.key at write.counter plain)) old.engine)
       (undone : cipher_of old.pads.key at write.counter (cipher_of old.pads.key at write.counter plain) ≡ plain)
-      (moves : StepMoves (terms.history old.bus) old.engine (terms.history new.bus) new.engine) (moved : terms.moved old.bus new.bus)
+      (moves : StepMoves (terms.history old.bus) old.engine (terms.history new.bus) new.engine)
       (honest : (used more : List (ℕ × Counter)) →
       IsAccounted terms.tag_of used old.engine.made (terms.history old.bus) None old.engine.evidence →
       IsAccounted terms.tag_of more new.engine.made (terms.history new.bus) None new.engine.evidence) where
@@ -245,15 +248,16 @@ module _ {B T : Type 0} (terms : MemoryTerms B) (write : LineWrite) where
     was_quiet : new.engine.evidence ≡ None → old.engine.evidence ≡ None
     was_quiet quiet = sym (ap (λ (e : TagEngineView T). e.evidence) made) ∙ quiet
 
-    one_with : (stop : Option MemStop) (writes : ℕ) → AreCounted (terms.history old.bus) (terms.history new.bus) writes → writes ≤ 1 → 1 ≤ writes + unwritten_in stop →
+    one_with : (stop : Option MemStop) (writes : ℕ) → MakesAccesses terms.moved terms.tag_of old.bus old.engine new.bus new.engine stop →
+        AreCounted (terms.history old.bus) (terms.history new.bus) writes → writes ≤ 1 → 1 ≤ writes + unwritten_in stop →
         (terms.history new.bus).reads ≡ (terms.history old.bus).reads →
         ((level index : ℕ) → (terms.history new.bus).written (node_place level index) ≡ (terms.history old.bus).written (node_place level index)) →
         ((other : ℕ) → other ≢ at → (terms.history new.bus).written (line_place other) ≡ (terms.history old.bus).written (line_place other)) →
         IsConsistent terms.tag_of terms.geometry (terms.history new.bus) made_now used_now →
         (stop ≢ Some NoMemory → HoldsLast terms.tag_of (line_count terms.geometry) made_now (terms.history new.bus).written) →
         ((place : Place) → stop ≢ Some (Tampered place)) → ((page : ℕ) → stop ≢ Some (Spent page)) → AreSealed terms write old (at ∷ []) new stop
-    one_with stop writes counted most least reads nodes lines fits lasts untampered unspent = record {
-      bus = moved;
+    one_with stop writes trace counted most least reads nodes lines fits lasts untampered unspent = record {
+      trace = trace;
       step = step;
       nodes = record {
         reads = λ level index. ap (λ (f : Place → ℕ). f (node_place level index)) reads;
@@ -292,12 +296,13 @@ module _ {B T : Type 0} (terms : MemoryTerms B) (write : LineWrite) where
     }
 
     -- it was written to its place
-    pub one_sealed : terms.history new.bus ≡ after_write (line_place at) (sealed_line terms.tag_of at write.counter cipher) (terms.history old.bus) →
+    pub one_sealed : MakesAccesses terms.moved terms.tag_of old.bus old.engine new.bus new.engine None →
+        terms.history new.bus ≡ after_write (line_place at) (sealed_line terms.tag_of at write.counter cipher) (terms.history old.bus) →
         AreSealed terms write old (at ∷ []) new None
-    one_sealed wrote =
+    one_sealed trace wrote =
         let once = wrote_once (line_place at) (sealed_line terms.tag_of at write.counter cipher) (terms.history old.bus) (terms.history new.bus) wrote in
         let long : length cipher ≡ 64 = length-cipher_of old.pads.key at write.counter plain in
-        one_with None 1 once.counted (omega arith) (omega arith) once.reads
+        one_with None 1 trace once.counted (omega arith) (omega arith) once.reads
         (λ level index. ap (λ (w : Place → List ℕ). w (node_place level index)) once.written
         ∙ node_there at (sealed_line terms.tag_of at write.counter cipher) (terms.history old.bus).written level index)
         (λ other differs.
@@ -312,10 +317,11 @@ module _ {B T : Type 0} (terms : MemoryTerms B) (write : LineWrite) where
         (λ place is. cc) (λ page is. cc)
 
     -- there was no memory to write it
-    pub one_unwritten : terms.history new.bus ≡ terms.history old.bus → AreSealed terms write old (at ∷ []) new (Some NoMemory)
-    one_unwritten same =
+    pub one_unwritten : MakesAccesses terms.moved terms.tag_of old.bus old.engine new.bus new.engine (Some NoMemory) →
+        terms.history new.bus ≡ terms.history old.bus → AreSealed terms write old (at ∷ []) new (Some NoMemory)
+    one_unwritten trace same =
         let long : length cipher ≡ 64 = length-cipher_of old.pads.key at write.counter plain in
-        one_with (Some NoMemory) 0 (subst (λ (t : BusHistory). AreCounted (terms.history old.bus) t 0) (sym same) (counted_not (terms.history old.bus)))
+        one_with (Some NoMemory) 0 trace (subst (λ (t : BusHistory). AreCounted (terms.history old.bus) t 0) (sym same) (counted_not (terms.history old.bus)))
         (omega arith) (omega arith) (ap (λ (t : BusHistory). t.reads) same) (λ level index. ap (λ (t : BusHistory). t.written (node_place level index)) same)
         (λ other differs. ap (λ (t : BusHistory). t.written (line_place other)) same)
         (unwritten_consistent terms.tag_of terms.geometry (terms.history old.bus) old.engine.made old.pads.used at write.counter cipher
@@ -349,7 +355,7 @@ module _ {B T : Type 0} (terms : MemoryTerms B) (write : LineWrite) where
       }
 
   -- some lines more, after those that were sealed
-  pub sealed_on : ((first second third : B) → terms.moved first second → terms.moved second third → terms.moved first third) →
+  pub sealed_on : ((first second third : B) (before after : List Access) → terms.moved first before second → terms.moved second after third → terms.moved first (before ++ after) third) →
       (first second third : OutsideView B T) (lines more : List ℕ) (stop : Option MemStop) →
       AreSealed terms write first lines second None → AreSealed terms write second more third stop →
       AreSealed terms write first (lines ++ more) third stop
@@ -358,7 +364,8 @@ module _ {B T : Type 0} (terms : MemoryTerms B) (write : LineWrite) where
       let many = length-append lines more in
       let sealed_pair : ℕ → ℕ × Counter = λ line. (line, write.counter) in
       record {
-        bus = moved_on first.bus second.bus third.bus a.bus b.bus;
+        trace = made_on terms.moved terms.tag_of moved_on first.bus second.bus third.bus first.engine second.engine third.engine stop
+            a.step.geometry b.step.evidence a.trace b.trace;
         step = record {
           bus_geometry = step.bus_geometry;
           geometry = step.geometry;

@@ -1,76 +1,46 @@
 -- What a write of a line makes of the lines outside.
-use Rattle.std.proofs.Common.{◌≡◌, ◌≢◌, ◌⊎◌, inl, inr, ℕ, ◌+◌, ◌*◌, ◌<◌, ◌≤◌, List, [], ◌++◌, length, map, take, Option, Some, None, Contains, Result, Err, OnOk, OnErr, refl, ap, sym, ◌∙◌, subst, arith}
-use Rattle.std.specs.List.{slice_get}
+use Rattle.std.proofs.Common.{◌≡◌, ◌≢◌, ◌⊎◌, inl, inr, ℕ, ◌+◌, ◌<◌, ◌≤◌, List, [], length, map, take, Option, Some, None, Contains, Result, Err, OnOk, OnErr, refl, ap, sym, ◌∙◌, subst, arith}
 use Rattle.std.specs.Option.{option_or}
 use Rattle.std.specs.Result.{result_err}
 use Rattle.std.proofs.lemmas.Bool.{cases_eq}
-use Rattle.std.proofs.lemmas.List.{append-nil, take-map, take_all}
-use Rattle.std.proofs.lemmas.List.FromFn.{get_or-range_with_len}
-use Rattle.std.proofs.lemmas.Option.{get_or_from_slice_get, slice_get_within}
+use Rattle.std.proofs.lemmas.List.{take_all}
 use Rattle.sec_base.specs.declared.counter.Counter.{Counter}
 use Rattle.sec_base.specs.declared.message.Message.{Message}
-use Rattle.sec_base.specs.declared.place.Place.{Place}
 use Rattle.sec_base.specs.declared.place.Place.TheVariants.{Line as line_place}
 use Rattle.sec_base.specs.declared.stop.MemStop.{MemStop}
-use Rattle.sec_base.specs.declared.stop.MemStop.TheVariants.{Tampered, Spent, NoMemory}
+use Rattle.sec_base.specs.declared.stop.MemStop.TheVariants.{NoMemory}
 use Rattle.sec_base.specs.Geometry.{GeometryView, line_count, page_of}
-use Rattle.sec_base.specs.LastMessage.{data_pairs}
 use Rattle.sec_base.specs.Lines.{with_line}
 use Rattle.sec_base.proofs.JoinedLines.{joined_lines-same, with_line-joined_lines}
 use Rattle.sec_base.proofs.Results.{on_success, on_err, was_none}
+use Rattle.bus_model.specs.Access.{Access}
 use Rattle.bus_model.specs.BusHistory.{BusHistory}
 use Rattle.tag_engine.specs.TagEngine.{TagEngineView, tags_of}
+use Rattle.checked_bus.specs.Makes.{MakesAccesses}
 use Rattle.checked_bus.specs.Steps.{IsAccounted}
 use Rattle.checked_bus.specs.Steps.{unwritten_in}
-use Rattle.split_counter.specs.CounterBlock.{last_counter, next_counter, place_of}
-use Rattle.counter_cache.specs.Counters.{CountersView, cached_pages, counter_accesses}
-use Rattle.page_reencrypt.specs.Contents.{bytes_of, contents_of, counter_in, entries_of_write, line_bytes, lines_encrypted, page_lines}
+use Rattle.split_counter.specs.CounterBlock.{next_counter}
+use Rattle.counter_cache.specs.Counters.{CountersView, cached_pages}
+use Rattle.page_reencrypt.specs.Contents.{bytes_of, contents_of, counter_in, line_bytes, lines_encrypted}
 use Rattle.page_reencrypt.specs.LineLengths.{length-line_bytes}
 use Rattle.page_reencrypt.specs.LineMoves.{WriteMoved, overflow_accesses, write_accesses}
 use Rattle.page_reencrypt.specs.Outside.{Accepts, IsWrite, OutsideView, outside_of, terms_of}
-use Rattle.page_reencrypt.specs.SealedLines.{AreOfPages, AreProtected, AreReread, AreSealedUnder, CountersRise, HadMemory, IsAcceptedInWrite, IsLineOf, IsSealedAnew, IsSealedInPart, IsTamperedInWrite, IsUnsealed, Moves, SameCounters, SealedLinesView, contents, lines_of_write}
+use Rattle.page_reencrypt.specs.SealedLines.{AreOfPages, AreProtected, CountersRise, IsAcceptedInWrite, IsLineOf, Moves, SealedLinesView, contents}
 use Rattle.page_reencrypt.specs.Stops.{lasting_stop}
-use Rattle.page_reencrypt.proofs.Entries.{encrypted_itself, encrypted_of_page, encrypted_page, entry_line, length-page_lines, taken}
-use Rattle.page_reencrypt.proofs.Kept.{none_before, protected_after, stop_accounted, stop_going, stop_lasts, stop_memory, stop_spent, stop_unwritten}
+use Rattle.page_reencrypt.specs.UnderCounters.{WrittenUnderCounters}
+use Rattle.page_reencrypt.proofs.Entries.{encrypted_itself, encrypted_of_page, entry_line, taken}
+use Rattle.page_reencrypt.proofs.Kept.{none_before, protected_after, stop_accesses, stop_accounted, stop_going, stop_lasts, stop_memory, stop_spent, stop_unwritten}
 use Rattle.page_reencrypt.proofs.LineReads.{beside_inside}
 use Rattle.page_reencrypt.proofs.Moves.{moves_not}
-use Rattle.page_reencrypt.proofs.Nodes.{not_node}
-use Rattle.page_reencrypt.proofs.ReadCalls.{contents_same, lasts_again, lasts_itself}
+use Rattle.page_reencrypt.proofs.ReadCalls.{lasts_again, lasts_itself}
 use Rattle.page_reencrypt.proofs.Reaching.{came_not, few_not}
 use Rattle.page_reencrypt.proofs.Rises.{rises_after, used_on}
 use Rattle.page_reencrypt.proofs.Sealing.{listed_or_not}
 use Rattle.page_reencrypt.proofs.Unmade.{same_tags}
 
--- the place of a line in its page, by its place in the list of the page's lines
-nth_of_page : (page count line : ℕ) → slice_get (page_lines page) count ≡ Some line → place_of line ≡ count
-nth_of_page page count line there =
-    let within = slice_get_within (page_lines page) count line there in
-    let long = length-page_lines page in
-    let below : count < 64 = omega (arith, within, long) in
-    let is : 64 * page + count ≡ line =
-    sym (get_or-range_with_len (64 * page) 64 count 0 below) ∙ get_or_from_slice_get (page_lines page) count line 0 there in
-    omega (arith, is, below)
-
--- nothing was sealed
-pub sealed_none : {B T : Type 0} (line : ℕ) (bytes : List ℕ) (lines : SealedLinesView B T) → IsSealedInPart line bytes lines lines
-unfolding data_pairs
-sealed_none line bytes lines = record {
-  counter = next_counter (counter_in lines.pads.used line);
-  next = λ quiet. refl;
-  count = 0;
-  within = omega arith;
-  sealed = record {
-    entries = sym (append-nil lines.pads.used);
-    more = [];
-    messages = sym (append-nil lines.engine.made);
-    pairs = refl;
-    own = λ listed. absurd (omega (arith, listed.1));
-  };
-}
-
 -- after a stop that lasts
-pub lasting_write : {B T : Type 0} (history : B → BusHistory) (bus_moved : B → B → Type 0) (tags : TagEngineView T → Message → List ℕ) →
-    ((bus : B) → bus_moved bus bus) → (lines : SealedLinesView B T) (line : ℕ) (bytes : List ℕ) (stop : MemStop) →
+pub lasting_write : {B T : Type 0} (history : B → BusHistory) (bus_moved : B → List Access → B → Type 0) (tags : TagEngineView T → Message → List ℕ) →
+    ((bus : B) → bus_moved bus [] bus) → (lines : SealedLinesView B T) (line : ℕ) (bytes : List ℕ) (stop : MemStop) →
     lasting_stop lines.stopped ≡ Some stop → WriteMoved history bus_moved tags lines line bytes (Err stop) lines
 lasting_write history bus_moved tags bus_unmoved lines line bytes stop lasting = record {
   moves = moves_not history bus_moved tags (IsLineOf lines) bus_unmoved lines;
@@ -81,6 +51,7 @@ lasting_write history bus_moved tags bus_unmoved lines line bytes stop lasting =
   cached = λ going. absurd (lasts_again lines.stopped stop lasting going);
   fits = λ going quiet. absurd (cc);
   outside = λ going. absurd (cc);
+  under = λ going. absurd (cc);
   once = λ quiet short. (omega arith, λ other. refl);
   few = omega arith;
   hit = λ cached quiet short. omega arith;
@@ -88,7 +59,7 @@ lasting_write history bus_moved tags bus_unmoved lines line bytes stop lasting =
   accepted = λ at counter sealed made_count quiet is. absurd (cc);
 }
 
-module _ {B T : Type 0} (d n : T → List ℕ → List ℕ) (history : B → BusHistory) (bus_moved : B → B → Type 0) (m : SealedLinesView B T) (line : ℕ) (bytes : List ℕ)
+module _ {B T : Type 0} (d n : T → List ℕ → List ℕ) (history : B → BusHistory) (bus_moved : B → List Access → B → Type 0) (m : SealedLinesView B T) (line : ℕ) (bytes : List ℕ)
     (kept : AreProtected d n history m) (going : lasting_stop m.stopped ≡ None) (inside : line < line_count m.engine.geometry)
     (new : OutsideView B T) (counters : CountersView) (result : Result (Unit {0}) MemStop)
     (w : IsWrite (terms_of history bus_moved d n (outside_of m)) m.limit line bytes (outside_of m) m.counters new counters (result_err result))
@@ -178,7 +149,8 @@ module _ {B T : Type 0} (d n : T → List ℕ → List ℕ) (history : B → Bus
   -- how it moves
   write_moves : Moves history bus_moved (tags_of d n) (IsLineOf m) m after
   write_moves = record {
-    bus = w.bus;
+    trace = λ going_on. subst (λ (s : Option MemStop). MakesAccesses bus_moved (tags_of d n m.engine) m.bus m.engine new.bus new.engine s) (sym stops)
+        (stop_accesses m.stopped going bus_moved (tags_of d n m.engine) m.bus new.bus m.engine new.engine (result_err result) w.trace);
     step = w.step;
     key = w.key;
     limit = refl;
@@ -206,7 +178,8 @@ module _ {B T : Type 0} (d n : T → List ℕ → List ℕ) (history : B → Bus
       (hit : Contains (cached_pages m.counters) (page_of line) → new.engine.evidence ≡ None → (next_counter (counter_in m.pads.used line)).line ≢ 0 →
       (history new.bus).accesses ≤ (history m.bus).accesses + 1)
       (hit_overflow : Contains (cached_pages m.counters) (page_of line) → (history new.bus).accesses ≤ (history m.bus).accesses + 127)
-      (accepted : Accepts (outside_of m) new (IsAcceptedInWrite line m.pads.used new.pads.used new.engine.made)) where
+      (accepted : Accepts (outside_of m) new (IsAcceptedInWrite line m.pads.used new.pads.used new.engine.made))
+      (under : WrittenUnderCounters history bus_moved (tags_of d n) m.limit line (outside_of m) m.counters new counters (result_err result)) where
     pub write_moved : WriteMoved history bus_moved (tags_of d n) m line bytes result after
     write_moved = record {
       moves = write_moves;
@@ -217,116 +190,10 @@ module _ {B T : Type 0} (d n : T → List ℕ → List ℕ) (history : B → Bus
       cached = cached;
       fits = (write_kept pages).fits;
       outside = λ going. w;
+      under = λ going. under;
       once = once;
       few = few;
       hit = hit;
       hit_overflow = hit_overflow;
       accepted = accepted;
     }
-
-  write_under : AreSealedUnder line bytes w.counter part m after
-  write_under = record {
-    entries = w.entries;
-    more = w.step.more;
-    messages = w.step.made;
-    pairs = w.pairs;
-    own = w.own;
-  }
-
-  pub write_sealed : OnOk result (IsSealedAnew line bytes m after)
-  write_sealed =
-      on_success result (λ none. record {
-        counter = w.counter;
-        next = w.next;
-        sealed = subst (λ (xs : List ℕ). AreSealedUnder line bytes w.counter xs m after) (every none) write_under;
-      })
-
-  pub write_sealed_in_part : OnErr result (IsSealedInPart line bytes m after)
-  write_sealed_in_part = on_err result (record { counter = w.counter; next = w.next; count = w.count; within = w.within; sealed = write_under })
-
-  pub write_reread : new.engine.evidence ≡ None → OnOk result (AreReread line (lines_of_write line m) m.pads.used (history m.bus) (history new.bus))
-  write_reread quiet =
-      on_success result (λ none.
-      subst (λ (k : Counter). AreReread line (lines_encrypted k line) m.pads.used (history m.bus) (history new.bus)) (w.next quiet)
-      (subst (λ (xs : List ℕ). AreReread line xs m.pads.used (history m.bus) (history new.bus)) (every none) (w.reread quiet)))
-
-  -- what the call leaves where no line was sealed
-  none_sealed : w.count ≡ 0 → (new.pads.used ≡ m.pads.used) × (data_pairs w.step.more ≡ [])
-  none_sealed none =
-      let nothing : part ≡ [] = ap (λ (k : ℕ). take k (lines_encrypted w.counter line)) none in (
-        w.entries ∙ ap (λ (xs : List ℕ). m.pads.used ++ map (λ at. (at, w.counter)) xs) nothing ∙ append-nil m.pads.used,
-        w.pairs ∙ ap (λ (xs : List ℕ). map (λ at. (at, w.counter)) xs) nothing,
-      )
-
-  unsealed_by : w.count ≡ 0 → IsUnsealed history m after
-  unsealed_by none = record {
-    unused = (none_sealed none).0;
-    more = w.step.more;
-    messages = w.step.made;
-    untagged = (none_sealed none).1;
-    unwritten_to = w.unwritten none;
-  }
-
-  same_contents : w.count ≡ 0 → contents after ≡ contents m
-  same_contents none =
-      contents_same m.pads.key new.pads.key m.engine.geometry new.engine.geometry m.engine.made w.step.more new.engine.made w.key w.step.geometry w.step.made
-      (none_sealed none).1
-
-  pub write_reserved : OnErr result (((new.pads.used ≡ m.pads.used) × (contents after ≡ contents m)
-      × (new.engine.evidence ≡ None → SameCounters m after)) ⊎ HadMemory m after)
-  write_reserved =
-      on_err result
-      (elim w.reserved [
-        | inl same ↦ inl ((none_sealed same.0).0, same_contents same.0, same.1)
-        | inr roomy ↦ inr (record { entries = roomy.0; messages = roomy.1 })
-      ])
-
-  pub write_used_up : new.engine.evidence ≡ None → counter_in m.pads.used line ≡ last_counter m.limit →
-      (result_err result ≢ None) × IsUnsealed history m after × SameCounters m after
-      × ((history new.bus).accesses ≤ (history m.bus).accesses + counter_accesses m.engine.geometry.levels)
-  write_used_up quiet last = let none = w.used_up quiet last in (none.1, unsealed_by none.0, none.2, none.3)
-
-  pub write_spent : (page : ℕ) → result ≡ Err (Spent page) → (page ≡ page_of line) × (contents after ≡ contents m) × IsUnsealed history m after
-  write_spent page is =
-      let spent = w.spent page (ap result_err is) in (spent.0, same_contents spent.1, unsealed_by spent.1)
-
-  pub write_spent_last : new.engine.evidence ≡ None → result ≡ Err (Spent (page_of line)) → counter_in m.pads.used line ≡ last_counter m.limit
-  write_spent_last quiet is = (w.spent (page_of line) (ap result_err is)).2 quiet
-
-  pub write_tampered : (place : Place) → result ≡ Err (Tampered place) → IsTamperedInWrite history line place m after
-  write_tampered place is =
-      let stop : result_err result ≡ Some (Tampered place) = ap result_err is in
-      record {
-        place_is =
-            elim (w.tampered place stop) [
-              | inl on_path ↦ inl on_path
-              | inr beside ↦ inr beside.0
-            ];
-        lied = w.lied place stop;
-      }
-
-  overflows : (other : ℕ) → result ≡ Err (Tampered (line_place other)) → w.counter.line ≡ 0
-  overflows other is =
-      elim (w.tampered (line_place other) (ap result_err is)) [
-        | inl on_path ↦ not_node m.engine.geometry (page_of line) other on_path
-        | inr beside ↦ beside.1
-      ]
-
-  pub write_untampered : (other : ℕ) → new.engine.evidence ≡ None → (next_counter (counter_in m.pads.used line)).line ≢ 0 → result ≢ Err (Tampered (line_place other))
-  write_untampered other quiet short is = short (sym (ap (λ (k : Counter). k.line) (w.next quiet)) ∙ overflows other is)
-
-  pub write_last_untampered : (other : ℕ) → new.engine.evidence ≡ None → counter_in m.pads.used line ≡ last_counter m.limit → result ≢ Err (Tampered (line_place other))
-  write_last_untampered other quiet last is =
-      not_node m.engine.geometry (page_of line) other ((w.used_up quiet last).4 (line_place other) (ap result_err is))
-
-  -- the lines before the one that failed were sealed
-  pub write_failed : (other : ℕ) → new.engine.evidence ≡ None → result ≡ Err (Tampered (line_place other)) →
-      new.pads.used ≡ m.pads.used ++ take (place_of other) (entries_of_write line m.pads.used)
-  write_failed other quiet is =
-      let next : slice_get (page_lines (page_of line)) w.count ≡ Some other =
-      subst (λ (lines : List ℕ). slice_get lines w.count ≡ Some other) (encrypted_page w.counter line (overflows other is)) (w.failed other (ap result_err is)) in
-      let at : place_of other ≡ w.count = nth_of_page (page_of line) w.count other next in
-      subst (λ (k : Counter). new.pads.used ≡ m.pads.used ++ map (λ at. (at, k)) (take w.count (lines_encrypted k line))) (w.next quiet) w.entries
-      ∙ ap (λ (entries : List (ℕ × Counter)). m.pads.used ++ entries)
-      (sym (take-map (λ at. (at, next_counter (counter_in m.pads.used line))) w.count (lines_encrypted (next_counter (counter_in m.pads.used line)) line)))
-      ∙ ap (λ (k : ℕ). m.pads.used ++ take k (entries_of_write line m.pads.used)) (sym at)

@@ -1,5 +1,5 @@
 -- What a memory of lines holds, by the messages that were tagged and the key that lines are encrypted under.
-use Rattle.std.specs.Prelude.{◌==◌, ◌≡◌, ◌≢◌, ◌⊎◌, ℕ, ◌*◌, ◌<◌, ◌≤◌, if◌then◌else◌, List, [], ◌∷◌, length, map, replicate, Option, Some, None, Contains, unwrap_or}
+use Rattle.std.specs.Prelude.{◌==◌, ◌≡◌, ◌≢◌, ◌⊎◌, ℕ, ◌*◌, ◌<◌, ◌≤◌, List, [], ◌∷◌, length, replicate, Option, Some, None, Contains, unwrap_or, if◌then◌else◌}
 use Rattle.std.specs.List.{filter, range_with_len}
 use Rattle.sec_base.specs.declared.place.Place.{Place}
 use Rattle.sec_base.specs.declared.place.Place.TheVariants.{Line as line_place}
@@ -13,7 +13,7 @@ use Rattle.sec_base.specs.Place.{zeros_of}
 use Rattle.sec_base.specs.Lines.{joined_lines}
 use Rattle.pad_stream.specs.Pad.{cipher_of}
 use Rattle.checked_bus.specs.SealedLine.{sealed_line}
-use Rattle.split_counter.specs.CounterBlock.{block_of, counter_of, last_counter, next_counter, place_of}
+use Rattle.split_counter.specs.CounterBlock.{block_of, counter_of, last_counter, place_of}
 use Rattle.bonsai_tree.specs.Tree.{SlotsAreTags}
 
 -- the bytes of a line, by its last message: its ciphertext, decrypted under its counter; zeros where it has none
@@ -44,11 +44,6 @@ page_lines page = range_with_len (LINES_PER_PAGE * page) LINES_PER_PAGE
 -- the lines that a write of a line encrypts under this counter: where its page counter is new, all lines of the page
 abbrev pub lines_encrypted : Counter → ℕ → List ℕ
 lines_encrypted counter line = if counter.line == 0 then page_lines (page_of line) else line ∷ []
-
--- the entries that it adds to those that were used
-abbrev pub entries_of_write : ℕ → List (ℕ × Counter) → List (ℕ × Counter)
-entries_of_write line used =
-    map (λ at. (at, next_counter (counter_in used line))) (lines_encrypted (next_counter (counter_in used line)) line)
 
 -- how many entries name the line, and how many name lines of the page
 abbrev pub line_entries : List (ℕ × Counter) → ℕ → ℕ

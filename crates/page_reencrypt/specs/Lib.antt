@@ -6,3 +6,4 @@ pub mod SealedLines
 pub mod SealedLinesInside
 pub mod Outside
 pub mod LineMoves
+pub mod UnderCounters

@@ -14,12 +14,14 @@ use Rattle.sec_base.specs.declared.stop.MemStop.TheVariants.{Tampered, Spent, No
 use Rattle.sec_base.specs.Count.{Rose}
 use Rattle.sec_base.specs.Geometry.{GeometryView, line_count, page_count, page_of}
 use Rattle.sec_base.specs.LastMessage.{data_pairs, last_data, last_node, last_pair, IsFresh}
+use Rattle.bus_model.specs.Access.{Access}
 use Rattle.bus_model.specs.BusHistory.{BusHistory}
 use Rattle.tag_engine.specs.TagEngine.{TagEngineView, tags_of, with_room as tags_with_room}
 use Rattle.pad_stream.specs.Pad.{cipher_of}
 use Rattle.pad_stream.specs.PadEngine.{PadEngineView, with_room as pads_with_room}
 use Rattle.pad_stream.specs.Pads.{AreRising}
 use Rattle.checked_bus.specs.Accesses.{AreCounted}
+use Rattle.checked_bus.specs.Makes.{MakesAccesses}
 use Rattle.checked_bus.specs.Steps.{IsAccounted, Moves as StepMoves, SameLines}
 use Rattle.split_counter.specs.CounterBlock.{block_of, counter_of, last_counter, next_counter, place_of}
 use Rattle.checked_bus.specs.Accesses.{WritesMessages}
@@ -41,15 +43,15 @@ pub record OutsideView (B T : Type 0) : Type 0 where
 abbrev pub outside_of : {B T : Type 0} → SealedLinesView B T → OutsideView B T
 outside_of lines = record { bus = lines.bus; engine = lines.engine; pads = lines.pads }
 
--- How a memory is seen: by its bus's history, how a bus may move, the tags of its messages, and its geometry.
+-- How a memory is seen: by its bus's history, what accesses make of a bus, the tags of its messages, and its geometry.
 pub record MemoryTerms (B : Type 0) : Type 1 where
   pub history : B → BusHistory
-  pub moved : B → B → Type 0
+  pub moved : B → List Access → B → Type 0
   pub tag_of : Message → List ℕ
   pub geometry : GeometryView
 
 -- the terms of this memory: its tags are those of its tag engine, and so is its geometry
-abbrev pub terms_of : {B T : Type 0} → (B → BusHistory) → (B → B → Type 0) → (T → List ℕ → List ℕ) → (T → List ℕ → List ℕ) → OutsideView B T → MemoryTerms B
+abbrev pub terms_of : {B T : Type 0} → (B → BusHistory) → (B → List Access → B → Type 0) → (T → List ℕ → List ℕ) → (T → List ℕ → List ℕ) → OutsideView B T → MemoryTerms B
 terms_of history moved data_tag_of node_tag_of outside = record {
   history = history;
   moved = moved;
@@ -128,7 +130,7 @@ module _ {B T : Type 0} (terms : MemoryTerms B) where
 
   -- Counters were had: no line was touched, and nothing was encrypted.
   pub record IsNodeStep (old new : OutsideView B T) (stop : Option MemStop) : Type 0 where
-    pub bus : terms.moved old.bus new.bus
+    pub trace : MakesAccesses terms.moved terms.tag_of old.bus old.engine new.bus new.engine stop
     pub step : StepMoves (terms.history old.bus) old.engine (terms.history new.bus) new.engine
     pub pairs : data_pairs step.more ≡ []
     pub lines : SameLines (terms.history old.bus) old.engine.made (terms.history new.bus) new.engine.made
@@ -142,7 +144,7 @@ module _ {B T : Type 0} (terms : MemoryTerms B) where
   -- A line was read under its counter, once its page's counters were had; or what was done of it where it stopped.
   pub record IsLineRead (line : ℕ) (old : OutsideView B T) (counters : CountersView) (new : OutsideView B T) (counters' : CountersView)
       (result : Result (List ℕ) MemStop) : Type 0 where
-    pub bus : terms.moved old.bus new.bus
+    pub trace : MakesAccesses terms.moved terms.tag_of old.bus old.engine new.bus new.engine (result_err result)
     pub step : StepMoves (terms.history old.bus) old.engine (terms.history new.bus) new.engine
     pub pairs : data_pairs step.more ≡ []
     pub geometry : counters'.tree.geometry ≡ counters.tree.geometry
@@ -190,7 +192,7 @@ module _ {B T : Type 0} (terms : MemoryTerms B) where
   -- Lines were encrypted under the counter of a write, one after another, each once; a message of each was tagged, and
   -- written but for the last where there was no memory.
   pub record AreSealed (write : LineWrite) (old : OutsideView B T) (lines : List ℕ) (new : OutsideView B T) (stop : Option MemStop) : Type 0 where
-    pub bus : terms.moved old.bus new.bus
+    pub trace : MakesAccesses terms.moved terms.tag_of old.bus old.engine new.bus new.engine stop
     pub step : StepMoves (terms.history old.bus) old.engine (terms.history new.bus) new.engine
     pub nodes : SameNodes old new
     pub key : new.pads.key ≡ old.pads.key
@@ -241,7 +243,7 @@ module _ {B T : Type 0} (terms : MemoryTerms B) where
   -- where it stopped.
   pub record IsWrite (limit line : ℕ) (bytes : List ℕ) (old : OutsideView B T) (counters : CountersView) (new : OutsideView B T)
       (counters' : CountersView) (stop : Option MemStop) : Type 0 where
-    pub bus : terms.moved old.bus new.bus
+    pub trace : MakesAccesses terms.moved terms.tag_of old.bus old.engine new.bus new.engine stop
     pub step : StepMoves (terms.history old.bus) old.engine (terms.history new.bus) new.engine
     pub geometry : counters'.tree.geometry ≡ counters.tree.geometry
     pub key : new.pads.key ≡ old.pads.key

@@ -1,6 +1,5 @@
 -- What contracts see of the lines outside, and what calls make of them.
-use Rattle.std.specs.Prelude.{◌≡◌, ◌≢◌, ◌⊎◌, ◌↔◌, ℕ, ◌+◌, ◌<◌, ◌≤◌, List, [], ◌++◌, length, map, take, Option, Some, None, Contains, replicate, false}
-use Rattle.sec_base.specs.declared.geometry.TheConstants.{LINES_PER_PAGE}
+use Rattle.std.specs.Prelude.{◌≡◌, ◌≢◌, ◌⊎◌, ◌↔◌, ℕ, ◌+◌, ◌<◌, ◌≤◌, List, [], ◌++◌, length, Option, Some, None, Contains, replicate, false}
 use Rattle.sec_base.specs.declared.place.Place.{Place}
 use Rattle.sec_base.specs.declared.place.Place.TheVariants.{Line as line_place}
 use Rattle.sec_base.specs.declared.counter.Counter.{Counter}
@@ -14,21 +13,23 @@ use Rattle.sec_base.specs.Count.{Rose}
 use Rattle.sec_base.specs.Evidence.{sealed_bytes}
 use Rattle.sec_base.specs.LastMessage.{IsFresh, last_data, data_pairs}
 use Rattle.sec_base.specs.Geometry.{GeometryView, line_count, page_count, page_of}
+use Rattle.bus_model.specs.Access.{Access}
 use Rattle.bus_model.specs.BusHistory.{BusHistory, after_read}
 use Rattle.tag_engine.specs.TagEngine.{TagEngineView, tags_of}
 use Rattle.pad_stream.specs.Pad.{cipher_of}
 use Rattle.pad_stream.specs.PadEngine.{PadEngineView}
 use Rattle.pad_stream.specs.Pads.{AreRising, of_lines}
 use Rattle.checked_bus.specs.Steps.{IsAccounted, Moves as StepMoves}
-use Rattle.split_counter.specs.CounterBlock.{CounterBlockView, counter_of, next_counter, place_of}
+use Rattle.split_counter.specs.CounterBlock.{CounterBlockView, counter_of, place_of}
 use Rattle.checked_bus.specs.Accesses.{WritesMessages}
+use Rattle.checked_bus.specs.Makes.{MakesAccesses}
 use Rattle.checked_bus.specs.Steps.{unwritten_in}
 use Rattle.bonsai_tree.specs.Node.{CachedNode, no_tag, page_block}
 use Rattle.bonsai_tree.specs.NodeCache.{most_copies}
-use Rattle.bonsai_tree.specs.Tree.{CameUnlessHeld, IsFetchPlace, IsTree, NodesHoldLast, PathWasRead, WasReadUp, cached_node, cached_nodes}
+use Rattle.bonsai_tree.specs.Tree.{CameUnlessHeld, IsTree, NodesHoldLast, PathWasRead, WasReadUp, cached_node, cached_nodes}
 use Rattle.counter_cache.specs.Counters.{AreHad, BlocksCameUnlessHeld, CameFrom, CountersView, cached_block, cached_pages, counters_in, most_blocks}
 use Rattle.page_reencrypt.specs.Consistency.{IsConsistent}
-use Rattle.page_reencrypt.specs.Contents.{ArePaged, AreUnskipped, AreWithin, HoldsLast, IsSpent, NodesSay, contents_of, counter_in, lines_encrypted, never_written}
+use Rattle.page_reencrypt.specs.Contents.{ArePaged, AreUnskipped, AreWithin, HoldsLast, IsSpent, NodesSay, contents_of, counter_in, never_written}
 use Rattle.page_reencrypt.specs.Stops.{lasting_stop}
 
 -- the bus, the tag engine, the pads, the counters of the pages, how high a page counter may rise, and the stop that was
@@ -173,9 +174,11 @@ pub record AreNew {B T : Type 0} (bus : B) (tagger : T) (key : List ℕ) (shape 
   pub going : lines.stopped ≡ None
 
 -- What calls leave as it was, add to, or carry on. What they encrypt is of the lines that are allowed.
-pub record Moves {B T : Type 0} (history : B → BusHistory) (bus_moved : B → B → Type 0) (tags : TagEngineView T → Message → List ℕ)
+pub record Moves {B T : Type 0} (history : B → BusHistory) (bus_moved : B → List Access → B → Type 0) (tags : TagEngineView T → Message → List ℕ)
     (allowed : ℕ → Type 0) (old new : SealedLinesView B T) : Type 0 where
-  pub bus : bus_moved old.bus new.bus
+  -- unless a stop lasted before: which accesses there were
+  pub trace : lasting_stop old.stopped ≡ None →
+      MakesAccesses bus_moved (tags old.engine) old.bus old.engine new.bus new.engine new.stopped
   pub step : StepMoves (history old.bus) old.engine (history new.bus) new.engine
   pub key : enc_key new ≡ enc_key old
   pub limit : new.limit ≡ old.limit
@@ -228,34 +231,6 @@ pub record IsReadByCounters (tag_of : Message → List ℕ) (key : List ℕ) (co
   pub had : AreHad tag_of counters counters' made' (page_of line) before after block
   pub read : IsReadUnder tag_of key line (counter_of (place_of line) block) new bytes
 
--- Lines were encrypted under this counter, each once and in this order, and a message of each was tagged; that of the
--- written line is of its new bytes. All other messages are of nodes.
-pub record AreSealedUnder {B T : Type 0} (line : ℕ) (bytes : List ℕ) (counter : Counter) (lines : List ℕ) (old new : SealedLinesView B T) : Type 0 where
-  pub entries : used new ≡ used old ++ map (λ at. (at, counter)) lines
-  pub more : List Message
-  pub messages : made new ≡ made old ++ more
-  pub pairs : data_pairs more ≡ map (λ at. (at, counter)) lines
-  pub own : Contains lines line → last_data line (made new) ≡ Some (counter, cipher_of (enc_key old) line counter bytes)
-
--- A front part of the lines that a write of this line encrypts was sealed; where there is no evidence, under the line's
--- next counter.
-pub record IsSealedInPart {B T : Type 0} (line : ℕ) (bytes : List ℕ) (old new : SealedLinesView B T) : Type 0 where
-  pub counter : Counter
-  pub next : IsQuiet new → counter ≡ next_counter (counter_in (used old) line)
-  pub count : ℕ
-  pub within : count ≤ length (lines_encrypted counter line)
-  pub sealed : AreSealedUnder line bytes counter (take count (lines_encrypted counter line)) old new
-
--- All of them were.
-pub record IsSealedAnew {B T : Type 0} (line : ℕ) (bytes : List ℕ) (old new : SealedLinesView B T) : Type 0 where
-  pub counter : Counter
-  pub next : IsQuiet new → counter ≡ next_counter (counter_in (used old) line)
-  pub sealed : AreSealedUnder line bytes counter (lines_encrypted counter line) old new
-
--- the lines that a write of this line encrypts: its own, or with an overflow all lines of its page
-abbrev pub lines_of_write : {B T : Type 0} → ℕ → SealedLinesView B T → List ℕ
-lines_of_write line lines = lines_encrypted (next_counter (counter_in (used lines) line)) line
-
 -- Of these lines each that was written before was read from its place, but for the line that is written.
 abbrev pub AreReread : ℕ → List ℕ → List (ℕ × Counter) → BusHistory → BusHistory → Type 0
 AreReread line lines used old new = (other : ℕ) → Contains lines other → other ≢ line →
@@ -264,11 +239,6 @@ AreReread line lines used old new = (other : ℕ) → Contains lines other → o
 -- The counters of all pages are the same.
 abbrev pub SameCounters : {B T : Type 0} → SealedLinesView B T → SealedLinesView B T → Type 0
 SameCounters old new = (page : ℕ) → page_counters new page ≡ page_counters old page
-
--- There was memory for the entries and the messages of all lines of a page.
-pub record HadMemory {B T : Type 0} (old new : SealedLinesView B T) : Type 0 where
-  pub entries : length (used old) + LINES_PER_PAGE ≤ length (used new) + new.pads.room
-  pub messages : length (made old) + LINES_PER_PAGE ≤ length (made new) + new.engine.room
 
 -- No line was encrypted or tagged, and no line's place was written.
 pub record IsUnsealed {B T : Type 0} (history : B → BusHistory) (old new : SealedLinesView B T) : Type 0 where
@@ -290,9 +260,3 @@ pub record IsBeside (line : ℕ) (place : Place) : Type 0 where
 pub record IsAcceptedInWrite (line : ℕ) (used used' : List (ℕ × Counter)) (made' : List Message) (at made_count : ℕ) : Type 0 where
   pub beside : IsBeside line (line_place at)
   pub since : made_count + length used' ≡ length made' + (length used + place_of at)
-
--- The place is a node that is read to have the page's counters, or that of another line of the page; and an answer was false,
--- or there was evidence before.
-pub record IsTamperedInWrite {B T : Type 0} (history : B → BusHistory) (line : ℕ) (place : Place) (old new : SealedLinesView B T) : Type 0 where
-  pub place_is : IsFetchPlace (geometry old) (page_of line) place ⊎ IsBeside line place
-  pub lied : IsQuiet old → Rose (history old.bus).lies (history new.bus).lies

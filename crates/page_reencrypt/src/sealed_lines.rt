@@ -1,32 +1,25 @@
 // The lines of the protected memory: they stand outside the chip, encrypted, each with a tag beside it. Their counters
 // stand outside too, below a tree whose root the chip keeps, and it keeps copies of those that were used last.
-ghost use Rattle.std.specs.Prelude.{◌≡◌, ◌≢◌, ◌+◌, ◌^◌, ◌<◌, ◌≤◌, ◌⊎◌, ◌++◌, ℕ, List, None, Some, Ok, Err, IfOk, IfErr, OnOk, OnErr, IfSome, Contains, length, take};
+ghost use Rattle.std.specs.Prelude.{◌≡◌, ◌≢◌, ◌+◌, ◌^◌, ◌<◌, ◌≤◌, ◌⊎◌, ℕ, None, Some, Ok, Err, IfOk, IfErr, OnOk, OnErr, IfSome, Contains, length};
 ghost use Rattle.std.specs.Result.{result_err};
-ghost use Rattle.sec_base.specs.Count.{Rose};
 ghost use Rattle.sec_base.specs.Evidence.{IsEvidence};
 ghost use Rattle.sec_base.specs.Geometry.{line_count, page_of};
-ghost use Rattle.sec_base.specs.LastMessage.{IsFresh};
 ghost use Rattle.sec_base.specs.Lines.{line_at, with_line};
 ghost use Rattle.sec_base.specs.declared.counter.Counter.{Counter};
-ghost use Rattle.sec_base.specs.declared.evidence.Evidence.TheVariants.{Collision, Forgery};
-ghost use Rattle.sec_base.specs.declared.place.Place.{Place};
 ghost use Rattle.sec_base.specs.declared.place.Place.TheVariants.{Line as line_place};
-ghost use Rattle.sec_base.specs.declared.sealed.Sealed.{Sealed};
 ghost use Rattle.sec_base.specs.declared.stop.MemStop.{MemStop};
 ghost use Rattle.sec_base.specs.declared.stop.MemStop.TheVariants.{Tampered, Spent};
-ghost use Rattle.bus_model.specs.Access.{Reaches};
 ghost use Rattle.bus_model.specs.BusHistory.{NothingWritten};
 ghost use Rattle.tag_engine.specs.TagEngine.{tags_of};
-ghost use Rattle.pad_stream.specs.Pad.{cipher_of};
 ghost use Rattle.pad_stream.specs.PadBlocks.{ShareNoBlock};
-ghost use Rattle.split_counter.specs.CounterBlock.{block_of, counter_of, last_counter, next_counter, place_of};
-ghost use Rattle.bonsai_tree.specs.Tree.{IsFetchPlace, PathWasRead, UnmadeAreUnread};
-ghost use Rattle.counter_cache.specs.Counters.{cached_pages, counter_accesses};
-ghost use Rattle.page_reencrypt.specs.Contents.{counter_in, entries_of_write};
+ghost use Rattle.split_counter.specs.CounterBlock.{next_counter, place_of};
+ghost use Rattle.counter_cache.specs.Counters.{cached_pages};
+ghost use Rattle.page_reencrypt.specs.Contents.{counter_in};
 ghost use Rattle.page_reencrypt.specs.Outside.{Accepts, AreConsistent, CountersFit, CountersSay, HasCounter, HaveLast, HaveLastNodes, HaveRisen, IsLineRead, IsWrite, terms_of};
-ghost use Rattle.page_reencrypt.specs.LineMoves.{ReadMoved, WriteMoved, read_accesses, write_accesses, overflow_accesses};
-ghost use Rattle.page_reencrypt.specs.SealedLines.{AreNew, AreOfPages, AreProtected, AreReread, CopiesCame, HadMemory, IsAcceptedInWrite, IsQuiet, IsReadByCounters, IsReadUnder, IsSealedAnew, IsSealedInPart, IsTamperedInWrite, IsUnsealed, KeepsFew, LinesFit, SameCounters, contents, enc_key, evidence, geometry, lines_of, lines_of_write, made, tag_in, used};
+ghost use Rattle.page_reencrypt.specs.LineMoves.{ReadMoved, WriteMoved, write_accesses, overflow_accesses};
+ghost use Rattle.page_reencrypt.specs.SealedLines.{AreNew, AreOfPages, AreProtected, IsAcceptedInWrite, IsQuiet, LinesFit, contents, enc_key, evidence, geometry, lines_of, made, tag_in, used};
 ghost use Rattle.page_reencrypt.specs.Stops.{lasting_stop};
+ghost use Rattle.page_reencrypt.specs.UnderCounters.{ReadUnderCounters, WrittenUnderCounters};
 
 use crate::account::Account;
 use crate::outside::Outside;
@@ -155,10 +148,10 @@ impl<B: Bus, T: Tagger> LineStore for SealedLines<B, T> {
     ghost stopped = { λ lines. lines.stopped };
 
     ghost read_moved = { λ before line answer after.
-        ReadMoved B.history (Reaches B.moved) (tags_of T.data_tag_of T.node_tag_of) before line answer after };
+        ReadMoved B.history B.moved (tags_of T.data_tag_of T.node_tag_of) before line answer after };
 
     ghost write_moved = { λ before line bytes answer after.
-        WriteMoved B.history (Reaches B.moved) (tags_of T.data_tag_of T.node_tag_of) before line bytes answer after };
+        WriteMoved B.history B.moved (tags_of T.data_tag_of T.node_tag_of) before line bytes answer after };
 
     fn lines(&self) -> u32 {
         self.geometry.lines()
@@ -177,66 +170,13 @@ impl<B: Bus, T: Tagger> LineStore for SealedLines<B, T> {
 
         ensures extent { lines_of self.new ≡ lines_of self.old }
         ensures lost { IsQuiet self.new → IsQuiet self.old }
-        ensures moved { ReadMoved B.history (Reaches B.moved) (tags_of T.data_tag_of T.node_tag_of) self.old line result self.new }
+
+        // What it made of bus, tag engine, counters and caches, and what was answered with evidence too.
+        ensures moved { ReadMoved B.history B.moved (tags_of T.data_tag_of T.node_tag_of) self.old line result self.new }
 
         // A lasting stop is answered again, and nothing is done.
         ensures kept { (stop : MemStop) → lasting_stop self.old.stopped ≡ Some stop →
             (result ≡ Err stop) × (self.new ≡ self.old) }
-
-        // It is what it takes to have the counters and one access for the line at most, or that one alone where the page's
-        // counters are on the chip. No line is encrypted, tagged or written, and no counter changes.
-        ensures once { (B.history self.new.bus).accesses ≤ (B.history self.old.bus).accesses + read_accesses (geometry self.old).levels }
-        ensures hit { Contains (cached_pages self.old.counters) (page_of line) →
-            (B.history self.new.bus).accesses ≤ (B.history self.old.bus).accesses + 1 }
-        ensures unsealed { IsUnsealed B.history self.old self.new }
-        ensures same_counters { lasting_stop self.old.stopped ≡ None → IsQuiet self.new → SameCounters self.old self.new }
-        ensures alone { (other : ℕ) → other ≢ line →
-            (B.history self.new.bus).reads (line_place other) ≡ (B.history self.old.bus).reads (line_place other) }
-
-        // The counters, the entries, the messages and what stands outside fit together before and after the call.
-        ensures fits { lasting_stop self.new.stopped ≡ None → IsQuiet self.new →
-            LinesFit T.data_tag_of T.node_tag_of B.history self.new }
-
-        // What passed though it was never tagged is answered as it was decrypted, and no message was made since. Counters that
-        // passed so are used as they were answered.
-        ensures accepted { (at : ℕ) (counter : Counter) (sealed : Sealed) (made_count : ℕ) → lasting_stop self.old.stopped ≡ None →
-            IsQuiet self.old → evidence self.new ≡ Some (Forgery at counter sealed made_count) →
-            (at ≡ line) × (made_count ≡ length (made self.new))
-            × (result ≡ Ok (cipher_of (enc_key self.old) line counter sealed.cipher)) }
-        ensures accepted_counters { (made_at : ℕ) (block tag : List ℕ) → lasting_stop self.old.stopped ≡ None →
-            IsQuiet self.old → evidence self.new ≡ Some (Collision 0 (page_of line) made_at block tag) →
-            IfOk result (IsReadUnder (tag_in T.data_tag_of T.node_tag_of self.old) (enc_key self.old) line
-            (counter_of (place_of line) (block_of block)) (B.history self.new.bus)) }
-
-        // Whatever was answered, the counters were those of the page's copy, or of a block with the tag that the tree keeps, or of
-        // zeros where it keeps none.
-        ensures checked { lasting_stop self.old.stopped ≡ None → IfOk result (IsReadByCounters (tag_in T.data_tag_of T.node_tag_of self.old)
-            (enc_key self.old) self.old.counters self.new.counters (made self.new) line (evidence self.old) (evidence self.new)
-            (B.history self.new.bus)) }
-
-        // What has a copy on the chip had one before, or was read or never made; and no node is read that was never made. Where
-        // the line was read, the counter block of its page has a copy.
-        ensures few_copies { KeepsFew self.old.counters self.new.counters }
-        ensures copies { IsQuiet self.new →
-            CopiesCame (page_of line) (B.history self.old.bus) (made self.old) self.old.counters
-            (B.history self.new.bus) (made self.new) self.new.counters (result_err result) }
-        ensures unread { IsQuiet self.new → UnmadeAreUnread (B.history self.old.bus) (made self.new) (B.history self.new.bus) }
-        ensures cached { OnOk result (Contains (cached_pages self.new.counters) (page_of line)) }
-
-        // Evidence comes only of a false answer.
-        ensures shown { lasting_stop self.old.stopped ≡ None → IsQuiet self.old →
-            IsQuiet self.new ⊎ Rose (B.history self.old.bus).lies (B.history self.new.bus).lies }
-
-        // The place of a line that was never written is not read.
-        ensures fresh { lasting_stop self.old.stopped ≡ None → IsQuiet self.new → IsFresh line (used self.old) →
-            (B.history self.new.bus).reads (line_place line) ≡ (B.history self.old.bus).reads (line_place line) }
-
-        // Tampering comes only of this line or of a node that is read to have its counters, and where an answer was false or
-        // there was evidence before.
-        ensures tampered { (place : Place) → lasting_stop self.old.stopped ≡ None → result ≡ Err (Tampered place) →
-            ((place ≡ line_place line) ⊎ IsFetchPlace (geometry self.old) (page_of line) place)
-            × (IsQuiet self.old → Rose (B.history self.old.bus).lies (B.history self.new.bus).lies) }
-        ensures unspent { (page : ℕ) → result ≢ Err (Spent page) }
     {
         if let Some(stop) = lasting(self.stopped) {
             return Err(stop);
@@ -260,85 +200,15 @@ impl<B: Bus, T: Tagger> LineStore for SealedLines<B, T> {
 
         ensures extent { lines_of self.new ≡ lines_of self.old }
         ensures lost { IsQuiet self.new → IsQuiet self.old }
-        ensures moved { WriteMoved B.history (Reaches B.moved) (tags_of T.data_tag_of T.node_tag_of) self.old line bytes.now result self.new }
+
+        // What it made of bus, tag engine, pads, counters and caches. The line is encrypted and tagged once, under its next
+        // counter; with an overflow all lines of its page are, in the order of their places, each with the bytes that the
+        // memory then holds. Where the write stops, a front part of them was.
+        ensures moved { WriteMoved B.history B.moved (tags_of T.data_tag_of T.node_tag_of) self.old line bytes.now result self.new }
 
         // A lasting stop is answered again, and nothing is done.
         ensures kept { (stop : MemStop) → lasting_stop self.old.stopped ≡ Some stop →
             (result ≡ Err stop) × (self.new ≡ self.old) }
-
-        // The line is encrypted and tagged once, under its next counter; with an overflow all lines of its page are, in
-        // the order of their places, each with the bytes that the memory then holds. Where the write stops, a front part
-        // of them was.
-        ensures sealed { OnOk result (IsSealedAnew line bytes.now self.old self.new) }
-        ensures sealed_in_part { OnErr result (IsSealedInPart line bytes.now self.old self.new) }
-
-        // The counters, the entries, the messages and what stands outside fit together before and after the call.
-        ensures fits { lasting_stop self.new.stopped ≡ None → IsQuiet self.new →
-            LinesFit T.data_tag_of T.node_tag_of B.history self.new }
-
-        // The path of the page is read, unless its counters were on the chip, but for nodes that were never made. With an overflow
-        // each other line of the page that was written before is read from its place.
-        ensures path { lasting_stop self.old.stopped ≡ None → IsQuiet self.new → ¬ Contains (cached_pages self.old.counters) (page_of line) →
-            OnOk result (PathWasRead self.old.counters.tree (made self.old) 0 (page_of line) (B.history self.old.bus) (B.history self.new.bus)) }
-        ensures reread { IsQuiet self.new → OnOk result (AreReread line (lines_of_write line self.old) (used self.old)
-            (B.history self.old.bus) (B.history self.new.bus)) }
-        ensures few_copies { KeepsFew self.old.counters self.new.counters }
-        ensures copies { IsQuiet self.new →
-            CopiesCame (page_of line) (B.history self.old.bus) (made self.old) self.old.counters
-            (B.history self.new.bus) (made self.new) self.new.counters (result_err result) }
-        ensures unread { IsQuiet self.new → UnmadeAreUnread (B.history self.old.bus) (made self.new) (B.history self.new.bus) }
-
-        // Where the line was written, with an overflow too, or is spent, the counter block of its page has a copy on the chip.
-        ensures cached { lasting_stop (result_err result) ≡ None → Contains (cached_pages self.new.counters) (page_of line) }
-
-        // Where a write stops and there was no memory for all lines of the page, the entries, the contents and the counters are
-        // as before.
-        ensures reserved { OnErr result (((used self.new ≡ used self.old) × (contents self.new ≡ contents self.old)
-            × (IsQuiet self.new → SameCounters self.old self.new)) ⊎ HadMemory self.old self.new) }
-
-        // Without evidence and without an overflow, a write makes at most the accesses that the page's counters take and one
-        // more, and reads no line; where those counters are on the chip, it makes one access at most. Any write makes at most
-        // 126 accesses more than these sums: 127 where the counters are on the chip.
-        ensures once { IsQuiet self.new → (next_counter (counter_in (used self.old) line)).line ≢ 0 →
-            ((B.history self.new.bus).accesses ≤ (B.history self.old.bus).accesses + write_accesses (geometry self.old).levels)
-            × ((other : ℕ) → (B.history self.new.bus).reads (line_place other) ≡ (B.history self.old.bus).reads (line_place other)) }
-        ensures few { (B.history self.new.bus).accesses ≤ (B.history self.old.bus).accesses + overflow_accesses (geometry self.old).levels }
-        ensures hit { Contains (cached_pages self.old.counters) (page_of line) →
-            IsQuiet self.new → (next_counter (counter_in (used self.old) line)).line ≢ 0 →
-            (B.history self.new.bus).accesses ≤ (B.history self.old.bus).accesses + 1 }
-        ensures hit_overflow { Contains (cached_pages self.old.counters) (page_of line) →
-            (B.history self.new.bus).accesses ≤ (B.history self.old.bus).accesses + 127 }
-
-        // Only a line with the last counter that the limit allows is spent, and such a line is not written again: its
-        // counters are had, and where the answer is another one, they could not be. Nothing but nodes changes.
-        ensures spent { lasting_stop self.old.stopped ≡ None → IsQuiet self.new → result ≡ Err (Spent (page_of line)) →
-            counter_in (used self.old) line ≡ last_counter self.old.limit }
-        ensures used_up { lasting_stop self.old.stopped ≡ None → IsQuiet self.new →
-            counter_in (used self.old) line ≡ last_counter self.old.limit →
-            (result_err result ≢ None) × IsUnsealed B.history self.old self.new × SameCounters self.old self.new
-            × ((B.history self.new.bus).accesses ≤ (B.history self.old.bus).accesses + counter_accesses (geometry self.old).levels) }
-        ensures spent_stays { (page : ℕ) → result ≡ Err (Spent page) → (page ≡ page_of line)
-            × (contents self.new ≡ contents self.old) × IsUnsealed B.history self.old self.new }
-
-        // Tampering comes only of a node that is read to have the page's counters or, with an overflow, of another line of the
-        // page, and where an answer was false or there was evidence before.
-        ensures tampered { (place : Place) → lasting_stop self.old.stopped ≡ None → result ≡ Err (Tampered place) →
-            IsTamperedInWrite B.history line place self.old self.new }
-        ensures untampered { (other : ℕ) → lasting_stop self.old.stopped ≡ None → IsQuiet self.new →
-            (next_counter (counter_in (used self.old) line)).line ≢ 0 → result ≢ Err (Tampered (line_place other)) }
-
-        ensures last_untampered { (other : ℕ) → lasting_stop self.old.stopped ≡ None → IsQuiet self.new →
-            counter_in (used self.old) line ≡ last_counter self.old.limit → result ≢ Err (Tampered (line_place other)) }
-
-        // The lines that were encrypted are those before the one that failed.
-        ensures failed { (other : ℕ) → lasting_stop self.old.stopped ≡ None → IsQuiet self.new → result ≡ Err (Tampered (line_place other)) →
-            used self.new ≡ used self.old ++ take (place_of other) (entries_of_write line (used self.old)) }
-
-        // What passed though it was never tagged is another line of the page, and was read when those before it were
-        // encrypted.
-        ensures accepted { (at : ℕ) (counter : Counter) (sealed : Sealed) (made_count : ℕ) → IsQuiet self.old →
-            evidence self.new ≡ Some (Forgery at counter sealed made_count) →
-            IsAcceptedInWrite line (used self.old) (used self.new) (made self.new) at made_count }
     {
         if let Some(stop) = lasting(self.stopped) {
             return Err(stop);
@@ -377,15 +247,17 @@ fn read_at<B: Bus, T: Tagger>(
     requires inside { line < line_count outside.old.engine.geometry }
     requires geometry { counters.old.tree.geometry ≡ outside.old.engine.geometry }
     requires pages { AreOfPages outside.old.engine.geometry counters.old }
-    requires consistent { AreConsistent (terms_of B.history (Reaches B.moved) T.data_tag_of T.node_tag_of outside.old) outside.old }
-    requires holds_last { HaveLast (terms_of B.history (Reaches B.moved) T.data_tag_of T.node_tag_of outside.old) outside.old }
-    requires nodes_hold_last { HaveLastNodes (terms_of B.history (Reaches B.moved) T.data_tag_of T.node_tag_of outside.old) outside.old }
-    requires risen { HaveRisen (terms_of B.history (Reaches B.moved) T.data_tag_of T.node_tag_of outside.old) outside.old }
-    requires fits { CountersFit (terms_of B.history (Reaches B.moved) T.data_tag_of T.node_tag_of outside.old) outside.old counters.old }
-    requires current { CountersSay (terms_of B.history (Reaches B.moved) T.data_tag_of T.node_tag_of outside.old) outside.old counters.old }
+    requires consistent { AreConsistent (terms_of B.history B.moved T.data_tag_of T.node_tag_of outside.old) outside.old }
+    requires holds_last { HaveLast (terms_of B.history B.moved T.data_tag_of T.node_tag_of outside.old) outside.old }
+    requires nodes_hold_last { HaveLastNodes (terms_of B.history B.moved T.data_tag_of T.node_tag_of outside.old) outside.old }
+    requires risen { HaveRisen (terms_of B.history B.moved T.data_tag_of T.node_tag_of outside.old) outside.old }
+    requires fits { CountersFit (terms_of B.history B.moved T.data_tag_of T.node_tag_of outside.old) outside.old counters.old }
+    requires current { CountersSay (terms_of B.history B.moved T.data_tag_of T.node_tag_of outside.old) outside.old counters.old }
     requires started { outside.old.engine.evidence ≡ None → (at : ℕ) → HasCounter outside.old.pads.used at (counter_in outside.old.pads.used at) }
 
-    ensures read { IsLineRead (terms_of B.history (Reaches B.moved) T.data_tag_of T.node_tag_of outside.old) line
+    ensures read { IsLineRead (terms_of B.history B.moved T.data_tag_of T.node_tag_of outside.old) line
+        outside.old counters.old outside.new counters.new result }
+    ensures under { ReadUnderCounters B.history B.moved (tags_of T.data_tag_of T.node_tag_of) line
         outside.old counters.old outside.new counters.new result }
     ensures cached { OnOk result (Contains (cached_pages counters.new) (page_of line)) }
     ensures pages { AreOfPages outside.old.engine.geometry counters.new }
@@ -406,16 +278,18 @@ fn write_next<B: Bus, T: Tagger>(
     requires inside { line < line_count outside.old.engine.geometry }
     requires geometry { counters.old.tree.geometry ≡ outside.old.engine.geometry }
     requires pages { AreOfPages outside.old.engine.geometry counters.old }
-    requires consistent { AreConsistent (terms_of B.history (Reaches B.moved) T.data_tag_of T.node_tag_of outside.old) outside.old }
-    requires holds_last { HaveLast (terms_of B.history (Reaches B.moved) T.data_tag_of T.node_tag_of outside.old) outside.old }
-    requires nodes_hold_last { HaveLastNodes (terms_of B.history (Reaches B.moved) T.data_tag_of T.node_tag_of outside.old) outside.old }
-    requires risen { HaveRisen (terms_of B.history (Reaches B.moved) T.data_tag_of T.node_tag_of outside.old) outside.old }
-    requires fits { CountersFit (terms_of B.history (Reaches B.moved) T.data_tag_of T.node_tag_of outside.old) outside.old counters.old }
-    requires current { CountersSay (terms_of B.history (Reaches B.moved) T.data_tag_of T.node_tag_of outside.old) outside.old counters.old }
+    requires consistent { AreConsistent (terms_of B.history B.moved T.data_tag_of T.node_tag_of outside.old) outside.old }
+    requires holds_last { HaveLast (terms_of B.history B.moved T.data_tag_of T.node_tag_of outside.old) outside.old }
+    requires nodes_hold_last { HaveLastNodes (terms_of B.history B.moved T.data_tag_of T.node_tag_of outside.old) outside.old }
+    requires risen { HaveRisen (terms_of B.history B.moved T.data_tag_of T.node_tag_of outside.old) outside.old }
+    requires fits { CountersFit (terms_of B.history B.moved T.data_tag_of T.node_tag_of outside.old) outside.old counters.old }
+    requires current { CountersSay (terms_of B.history B.moved T.data_tag_of T.node_tag_of outside.old) outside.old counters.old }
     requires started { outside.old.engine.evidence ≡ None → (at : ℕ) → HasCounter outside.old.pads.used at (counter_in outside.old.pads.used at) }
     requires limited { outside.old.engine.evidence ≡ None → (counter_in outside.old.pads.used line).page ≤ limit }
 
-    ensures written { IsWrite (terms_of B.history (Reaches B.moved) T.data_tag_of T.node_tag_of outside.old) limit line bytes.now
+    ensures written { IsWrite (terms_of B.history B.moved T.data_tag_of T.node_tag_of outside.old) limit line bytes.now
+        outside.old counters.old outside.new counters.new (result_err result) }
+    ensures under { WrittenUnderCounters B.history B.moved (tags_of T.data_tag_of T.node_tag_of) limit line
         outside.old counters.old outside.new counters.new (result_err result) }
     ensures cached { lasting_stop (result_err result) ≡ None → Contains (cached_pages counters.new) (page_of line) }
     ensures pages { AreOfPages outside.old.engine.geometry counters.new }

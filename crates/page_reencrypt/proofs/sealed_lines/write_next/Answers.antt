@@ -6,14 +6,15 @@ use Rattle.sec_base.specs.declared.evidence.Evidence.TheVariants.{Forgery}
 use Rattle.sec_base.specs.declared.place.Place.{Place}
 use Rattle.sec_base.specs.declared.place.Place.TheVariants.{Line as line_place}
 use Rattle.sec_base.specs.declared.stop.MemStop.{MemStop}
-use Rattle.sec_base.specs.declared.stop.MemStop.TheVariants.{NoMemory}
+use Rattle.sec_base.specs.declared.stop.MemStop.TheVariants.{NoMemory, Spent as spent_page}
 use Rattle.sec_base.proofs.Results.{was_none}
-use Rattle.bus_model.specs.Access.{Reaches, reaches_none, reaches_on}
 use Rattle.bus_model.specs.BusHistory.{BusHistory}
 use Rattle.tag_engine.specs.TagEngine.{tags_of}
 use Rattle.pad_stream.specs.Pad.{cipher_of}
+use Rattle.pad_stream.specs.PadEngine.{PadEngineView}
 use Rattle.checked_bus.specs.SealedLine.{sealed_line}
 use Rattle.checked_bus.proofs.TaggedWrites.{wrote_once}
+use Rattle.split_counter.specs.declared.bumped.Bumped.TheVariants.{Line, Page}
 use Rattle.counter_cache.specs.Counters.{cached_pages, counters_in}
 use Rattle.page_reencrypt.specs.Contents.{page_lines}
 use Rattle.page_reencrypt.specs.Outside.{IsWrite, LineWrite, OutsideView, terms_of}
@@ -26,12 +27,13 @@ use Rattle.page_reencrypt.proofs.CountersHad.{counted_up_by}
 use Rattle.page_reencrypt.proofs.Reaching.{HasCome, IsReached, come_idle}
 use Rattle.page_reencrypt.proofs.Reencrypting.{one_access}
 use Rattle.page_reencrypt.proofs.Sealing.{made_as_used}
+use Rattle.page_reencrypt.proofs.UnderCounters.{counted_as_foreseen, entries_of_line, entries_of_page, foreseen_by, had_first, messages_of_line, messages_of_page, write_counted, write_refused, write_roomless, write_spent}
 use Rattle.page_reencrypt.proofs.sealed_lines.write_next.Goals as goal
 
 pub returns-in_err-block-clause-written : goal.returns-in_err-block-clause-written
 returns-in_err-block-clause-written g c =
     let h = g.B.Bus.history in
-    let m = (Reaches g.B.Bus.moved) in
+    let m = g.B.Bus.moved in
     let d = g.T.Tagger.data_tag_of in
     let n = g.T.Tagger.node_tag_of in
     let old = c.args.outside.now in
@@ -61,7 +63,7 @@ returns-in_err-block-clause-written g c =
 pub returns-in-Spent-clause-written : goal.returns-in-Spent-clause-written
 returns-in-Spent-clause-written g c =
     let h = g.B.Bus.history in
-    let m = (Reaches g.B.Bus.moved) in
+    let m = g.B.Bus.moved in
     let d = g.T.Tagger.data_tag_of in
     let n = g.T.Tagger.node_tag_of in
     let old = c.args.outside.now in
@@ -100,6 +102,35 @@ returns-in-Spent-clause-written g c =
     let was_quiet = was_none old.engine.evidence c.get.new.self.engine.evidence e.step.step.evidence quiet in
     here ∙ is_last c.args.limit c.get-2.result full.0 full.1 (subst (λ (k : Counter). k.page ≤ c.args.limit) here (c.requires.limited was_quiet)))
     (λ quiet last. (e.same c.requires.fits quiet, e.once)) come
+
+pub returns-in_err-block-clause-under : goal.returns-in_err-block-clause-under
+returns-in_err-block-clause-under g c =
+    let h = g.B.Bus.history in
+    let m = g.B.Bus.moved in
+    let d = g.T.Tagger.data_tag_of in
+    let n = g.T.Tagger.node_tag_of in
+    let old = c.args.outside.now in
+    let counters = c.args.counters.now in
+    let why = c.in_err-block.field-0.0 in
+    let e = c.in_err-block.ensures in
+    let stop : result_err c.from_residual.result ≡ Some why = search rules in
+    write_refused h m (tags_of d n) c.args.line old counters c.get.new.self c.get.new.counters c.args.limit why (result_err c.from_residual.result) stop
+    (λ page is. e.unspent page (ap (λ (s : MemStop). Err s) is))
+    (had_first h m (tags_of d n) c.args.line old counters c.get.new.self c.get.new.counters c.page_of-page.result (Some why) c.page_of-page.ensures.page e.had e.step.trace e.pads)
+
+pub returns-in-Spent-clause-under : goal.returns-in-Spent-clause-under
+returns-in-Spent-clause-under g c =
+    let h = g.B.Bus.history in
+    let m = g.B.Bus.moved in
+    let d = g.T.Tagger.data_tag_of in
+    let n = g.T.Tagger.node_tag_of in
+    let old = c.args.outside.now in
+    let counters = c.args.counters.now in
+    let e = c.in_ok-block.ensures in
+    write_spent h m (tags_of d n) c.args.line old counters c.get.new.self c.get.new.counters
+    (had_first h m (tags_of d n) c.args.line old counters c.get.new.self c.get.new.counters c.page_of-page.result None c.page_of-page.ensures.page e.had e.step.trace e.pads) c.args.limit c.of.result
+    (foreseen_by c.get.new.counters c.get.new.self.engine.made c.args.line c.page_of-page.result c.place_of-place.result c.args.limit c.in_ok-block.block c.get-2.result c.of.result
+    c.page_of-page.ensures.page c.place_of-place.ensures.place e.answer c.get-2.ensures.counter c.of.ensures.outcome) c.page_of-page.result c.page_of-page.ensures.page c.in-Spent.is
 
 pub returns-in_err-block-clause-accepted : goal.returns-in_err-block-clause-accepted
 returns-in_err-block-clause-accepted g c = λ at under sealed made_count quiet is.
@@ -174,7 +205,7 @@ returns-in-Spent-clause-hit_overflow g c = λ cached.
 pub returns-in_err-reserve : goal.returns-in_err-reserve
 returns-in_err-reserve g c =
     let h = g.B.Bus.history in
-    let m = (Reaches g.B.Bus.moved) in
+    let m = g.B.Bus.moved in
     let d = g.T.Tagger.data_tag_of in
     let n = g.T.Tagger.node_tag_of in
     let old = c.args.outside.now in
@@ -214,7 +245,7 @@ returns-in_err-reserve g c =
     record {
       written = subst (λ (s : Option MemStop). IsWrite (terms_of h m d n old) c.args.limit c.args.line c.args.bytes.now old counters c.reserve.new.self c.get.new.counters s) (sym stop)
           (stopped_early h m d n old counters c.reserve.new.self c.get.new.counters NoMemory
-          (refused_reached h m d n old counters c.get.new.self c.get.new.counters got ((reaches_none g.B.Bus.moved g.met.B.Bus.unmoved) c.get.new.self.bus) (reaches_on g.B.Bus.moved g.met.B.Bus.moved_on) c.reserve.new.self differs)
+          (refused_reached h m d n old counters c.get.new.self c.get.new.counters got g.met.B.Bus.unmoved g.met.B.Bus.moved_on c.reserve.new.self differs)
           c.args.limit c.args.line c.args.bytes.now c.requires.risen (λ page is. cc)
           (inl (λ quiet page. ap (λ e. counters_in c.get.new.counters e.made page) differs.engine
           ∙ e.same c.requires.fits (sym (ap (λ e. e.evidence) differs.engine) ∙ quiet) page)) (λ place is. absurd (cc))
@@ -225,6 +256,10 @@ returns-in_err-reserve g c =
           ))
           (come_idle (terms_of h m d n old) (page_of c.args.line) old c.get.new.self c.reserve.new.self counters c.get.new.counters (Some NoMemory) differs.bus
           (ap (λ e. e.made) differs.engine) (ap (λ e. e.evidence) differs.engine) come));
+      under = write_roomless h m (tags_of d n) c.args.line old counters c.get.new.self c.get.new.counters (had_first h m (tags_of d n) c.args.line old counters c.get.new.self c.get.new.counters c.page_of-page.result None c.page_of-page.ensures.page e.had e.step.trace e.pads) c.args.limit c.of.result
+          (foreseen_by c.get.new.counters c.get.new.self.engine.made c.args.line c.page_of-page.result c.place_of-place.result c.args.limit c.in_ok-block.block c.get-2.result c.of.result
+          c.page_of-page.ensures.page c.place_of-place.ensures.place e.answer c.get-2.ensures.counter c.of.ensures.outcome)
+          c.reserve.new.self (result_err c.from_residual-in_err-reserve.result) stop c.in_default.not-Spent differs;
       cached = λ going. subst (λ (p : ℕ). Contains (cached_pages c.get.new.counters) p) c.page_of-page.ensures.page (latest_cached c.get.new.counters c.page_of-page.result e.latest);
       pages = e.pages;
       accepted = λ at under sealed made_count quiet is.
@@ -242,7 +277,7 @@ returns-in_err-reserve g c =
 pub returns-in-Spent-count : goal.returns-in-Spent-count
 returns-in-Spent-count g c =
     let h = g.B.Bus.history in
-    let m = (Reaches g.B.Bus.moved) in
+    let m = g.B.Bus.moved in
     let d = g.T.Tagger.data_tag_of in
     let n = g.T.Tagger.node_tag_of in
     let old = c.args.outside.now in
@@ -277,15 +312,17 @@ returns-in-Spent-count g c =
     let same_geometry : c.reserve.new.self.engine.geometry ≡ old.engine.geometry =
     ap (λ (o : OutsideView g.row.B.Denot g.row.T.Denot). o.engine.geometry) c.in_ok-reserve.ensures.taken ∙ e.step.step.geometry in
     let same_accesses = ap (λ (t : BusHistory). t.accesses) same_bus in
-    let u = counted_up_by g.B.Bus.history (Reaches g.B.Bus.moved) g.T.Tagger.data_tag_of g.T.Tagger.node_tag_of c.reserve.new.self c.get.new.counters c.count.new.self c.page_of-page.result c.place_of-place.result c.args.limit c.count.result c.count.ensures.counted e.copied c.count.ensures.copies in
+    let u = counted_up_by g.B.Bus.history g.B.Bus.moved g.T.Tagger.data_tag_of g.T.Tagger.node_tag_of c.reserve.new.self c.get.new.counters c.count.new.self c.page_of-page.result c.place_of-place.result c.args.limit c.count.result c.count.ensures.counted e.copied c.count.ensures.copies in
     let bumped_evidence : c.reserve.new.self.engine.evidence ≡ c.get.new.self.engine.evidence = ap (λ (o : OutsideView g.row.B.Denot g.row.T.Denot). o.engine.evidence) c.in_ok-reserve.ensures.taken in
     let up = counted_up h m d n old counters c.requires.current c.args.limit c.args.line c.page_of-page.result c.place_of-place.result c.get.new.self c.get.new.counters
-    c.in_ok-block.block c.get-2.result c.of.result had ((reaches_none g.B.Bus.moved g.met.B.Bus.unmoved) c.get.new.self.bus) (reaches_on g.B.Bus.moved g.met.B.Bus.moved_on) c.reserve.new.self c.reserve.new.self c.count.new.self
-    c.count.result c.in_ok-reserve.ensures.taken ((reaches_none g.B.Bus.moved g.met.B.Bus.unmoved) c.reserve.new.self.bus) (refl, refl) refl u.geometry u.few u.came u.fits (λ fit quiet. u.outcome_is) (λ fit quiet. u.now) (λ fit quiet. u.others) in
+    c.in_ok-block.block c.get-2.result c.of.result had g.met.B.Bus.unmoved g.met.B.Bus.moved_on c.reserve.new.self c.reserve.new.self c.count.new.self
+    c.count.result c.in_ok-reserve.ensures.taken (refl, refl) refl u.geometry u.few u.came u.fits (λ fit quiet. u.outcome_is) (λ fit quiet. u.now) (λ fit quiet. u.others) in
     record {
       written = spent_after h m d n old counters c.requires.current c.args.limit c.args.line c.page_of-page.result c.place_of-place.result c.get.new.self c.get.new.counters
-          c.in_ok-block.block c.get-2.result c.of.result had ((reaches_none g.B.Bus.moved g.met.B.Bus.unmoved) c.get.new.self.bus) (reaches_on g.B.Bus.moved g.met.B.Bus.moved_on) c.reserve.new.self c.reserve.new.self c.count.new.self
+          c.in_ok-block.block c.get-2.result c.of.result had g.met.B.Bus.unmoved g.met.B.Bus.moved_on c.reserve.new.self c.reserve.new.self c.count.new.self
           c.count.result up c.args.bytes.now c.requires.risen c.in-Spent-count.is c.in_default.not-Spent;
+      under = absurd (c.in_default.not-Spent (sym (counted_as_foreseen c.get.new.counters c.count.new.self c.get.new.self.engine.made c.page_of-page.result c.place_of-place.result c.args.limit c.in_ok-block.block c.get-2.result c.of.result c.count.result
+          e.answer c.get-2.ensures.counter c.of.ensures.outcome c.count.ensures.counted) ∙ c.in-Spent-count.is));
       cached = λ going. subst (λ (p : ℕ). Contains (cached_pages c.count.new.self) p) c.page_of-page.ensures.page u.cached;
       pages = u.inside old.engine.geometry e.pages;
       accepted = λ at under sealed made_count quiet is.
@@ -301,8 +338,9 @@ returns-in-Spent-count g c =
 
 pub returns-in_err-seal-in-Line : goal.returns-in_err-seal-in-Line
 returns-in_err-seal-in-Line g c =
+    let stop : result_err c.from_residual-in_err-seal-in-Line.result ≡ Some NoMemory = search rules in
     let h = g.B.Bus.history in
-    let m = (Reaches g.B.Bus.moved) in
+    let m = g.B.Bus.moved in
     let d = g.T.Tagger.data_tag_of in
     let n = g.T.Tagger.node_tag_of in
     let old = c.args.outside.now in
@@ -337,22 +375,33 @@ returns-in_err-seal-in-Line g c =
     let same_geometry : c.reserve.new.self.engine.geometry ≡ old.engine.geometry =
     ap (λ (o : OutsideView g.row.B.Denot g.row.T.Denot). o.engine.geometry) c.in_ok-reserve.ensures.taken ∙ e.step.step.geometry in
     let same_accesses = ap (λ (t : BusHistory). t.accesses) same_bus in
-    let u = counted_up_by g.B.Bus.history (Reaches g.B.Bus.moved) g.T.Tagger.data_tag_of g.T.Tagger.node_tag_of c.reserve.new.self c.get.new.counters c.count.new.self c.page_of-page.result c.place_of-place.result c.args.limit c.count.result c.count.ensures.counted e.copied c.count.ensures.copies in
+    let u = counted_up_by g.B.Bus.history g.B.Bus.moved g.T.Tagger.data_tag_of g.T.Tagger.node_tag_of c.reserve.new.self c.get.new.counters c.count.new.self c.page_of-page.result c.place_of-place.result c.args.limit c.count.result c.count.ensures.counted e.copied c.count.ensures.copies in
     let bumped_evidence : c.reserve.new.self.engine.evidence ≡ c.get.new.self.engine.evidence = ap (λ (o : OutsideView g.row.B.Denot g.row.T.Denot). o.engine.evidence) c.in_ok-reserve.ensures.taken in
     let up = counted_up h m d n old counters c.requires.current c.args.limit c.args.line c.page_of-page.result c.place_of-place.result c.get.new.self c.get.new.counters
-    c.in_ok-block.block c.get-2.result c.of.result had ((reaches_none g.B.Bus.moved g.met.B.Bus.unmoved) c.get.new.self.bus) (reaches_on g.B.Bus.moved g.met.B.Bus.moved_on) c.reserve.new.self c.reserve.new.self c.count.new.self
-    c.count.result c.in_ok-reserve.ensures.taken ((reaches_none g.B.Bus.moved g.met.B.Bus.unmoved) c.reserve.new.self.bus) (refl, refl) refl u.geometry u.few u.came u.fits (λ fit quiet. u.outcome_is) (λ fit quiet. u.now) (λ fit quiet. u.others) in
-    let stop : result_err c.from_residual-in_err-seal-in-Line.result ≡ Some NoMemory = search rules in
+    c.in_ok-block.block c.get-2.result c.of.result had g.met.B.Bus.unmoved g.met.B.Bus.moved_on c.reserve.new.self c.reserve.new.self c.count.new.self
+    c.count.result c.in_ok-reserve.ensures.taken (refl, refl) refl u.geometry u.few u.came u.fits (λ fit quiet. u.outcome_is) (λ fit quiet. u.now) (λ fit quiet. u.others) in
     let s = c.seal.ensures in
     let same_last : h c.seal.new.self.bus ≡ h c.reserve.new.self.bus = c.in_err-seal-in-Line.ensures.err in
     let last_accesses = ap (λ (t : BusHistory). t.accesses) same_last in
     record {
       written = subst (λ (s : Option MemStop). IsWrite (terms_of h m d n old) c.args.limit c.args.line c.args.bytes.now old counters c.seal.new.self c.count.new.self s) (sym stop)
           (line_unwritten h m d n old counters c.requires.current c.args.limit c.args.line c.page_of-page.result c.place_of-place.result c.get.new.self c.get.new.counters
-          c.in_ok-block.block c.get-2.result c.of.result had ((reaches_none g.B.Bus.moved g.met.B.Bus.unmoved) c.get.new.self.bus) (reaches_on g.B.Bus.moved g.met.B.Bus.moved_on) c.reserve.new.self c.reserve.new.self c.count.new.self
+          c.in_ok-block.block c.get-2.result c.of.result had g.met.B.Bus.unmoved g.met.B.Bus.moved_on c.reserve.new.self c.reserve.new.self c.count.new.self
           c.count.result up c.requires.started (e.read c.requires.fits) c.args.bytes.now c.in-Line.counter c.in-Line.is
-          (c.count.ensures.line c.in-Line.counter c.in-Line.is).written c.of.ensures.line c.seal.new.self s.used s.made s.undone s.moves s.moved s.honest
-          c.requires.risen same_last);
+          (c.count.ensures.line c.in-Line.counter c.in-Line.is).written c.of.ensures.line c.seal.new.self s.used s.made s.undone s.moves s.honest
+          c.requires.risen c.in_err-seal-in-Line.ensures.accesses same_last);
+      under = write_counted h m (tags_of d n) c.args.line old counters c.get.new.self c.get.new.counters (had_first h m (tags_of d n) c.args.line old counters c.get.new.self c.get.new.counters c.page_of-page.result None c.page_of-page.ensures.page e.had e.step.trace e.pads) c.args.limit c.of.result
+          (foreseen_by c.get.new.counters c.get.new.self.engine.made c.args.line c.page_of-page.result c.place_of-place.result c.args.limit c.in_ok-block.block c.get-2.result c.of.result
+          c.page_of-page.ensures.page c.place_of-place.ensures.place e.answer c.get-2.ensures.counter c.of.ensures.outcome)
+          c.seal.new.self c.count.new.self (result_err c.from_residual-in_err-seal-in-Line.result) c.page_of-page.result c.place_of-place.result c.count.result 1
+          c.page_of-page.ensures.page c.place_of-place.ensures.place c.count.ensures.counted
+          (counted_as_foreseen c.get.new.counters c.count.new.self c.get.new.self.engine.made c.page_of-page.result c.place_of-place.result c.args.limit c.in_ok-block.block c.get-2.result c.of.result c.count.result
+          e.answer c.get-2.ensures.counter c.of.ensures.outcome c.count.ensures.counted)
+          c.in_default.not-Spent (λ other is. let both : Some NoMemory ≡ Some (spent_page other) = sym stop ∙ is in absurd (cc))
+          (entries_of_line c.get.new.self c.reserve.new.self c.seal.new.self.pads.used c.args.line c.in-Line.counter c.count.result c.in_ok-reserve.ensures.taken c.in-Line.is
+          (c.count.ensures.line c.in-Line.counter c.in-Line.is).written (ap (λ (p : PadEngineView). p.used) s.used))
+          (messages_of_line c.get.new.self c.reserve.new.self c.seal.new.self.engine _ c.in_ok-reserve.ensures.taken s.made)
+          (λ counter is. (refl, omega (arith, same_accesses, last_accesses))) (omega (arith, same_accesses, last_accesses));
       cached = λ going. subst (λ (p : ℕ). Contains (cached_pages c.count.new.self) p) c.page_of-page.ensures.page u.cached;
       pages = u.inside old.engine.geometry e.pages;
       accepted = λ at under sealed made_count quiet is.
@@ -370,7 +419,7 @@ returns-in_err-seal-in-Line g c =
 pub returns-in_ok-seal-in-Line : goal.returns-in_ok-seal-in-Line
 returns-in_ok-seal-in-Line g c =
     let h = g.B.Bus.history in
-    let m = (Reaches g.B.Bus.moved) in
+    let m = g.B.Bus.moved in
     let d = g.T.Tagger.data_tag_of in
     let n = g.T.Tagger.node_tag_of in
     let old = c.args.outside.now in
@@ -405,11 +454,11 @@ returns-in_ok-seal-in-Line g c =
     let same_geometry : c.reserve.new.self.engine.geometry ≡ old.engine.geometry =
     ap (λ (o : OutsideView g.row.B.Denot g.row.T.Denot). o.engine.geometry) c.in_ok-reserve.ensures.taken ∙ e.step.step.geometry in
     let same_accesses = ap (λ (t : BusHistory). t.accesses) same_bus in
-    let u = counted_up_by g.B.Bus.history (Reaches g.B.Bus.moved) g.T.Tagger.data_tag_of g.T.Tagger.node_tag_of c.reserve.new.self c.get.new.counters c.count.new.self c.page_of-page.result c.place_of-place.result c.args.limit c.count.result c.count.ensures.counted e.copied c.count.ensures.copies in
+    let u = counted_up_by g.B.Bus.history g.B.Bus.moved g.T.Tagger.data_tag_of g.T.Tagger.node_tag_of c.reserve.new.self c.get.new.counters c.count.new.self c.page_of-page.result c.place_of-place.result c.args.limit c.count.result c.count.ensures.counted e.copied c.count.ensures.copies in
     let bumped_evidence : c.reserve.new.self.engine.evidence ≡ c.get.new.self.engine.evidence = ap (λ (o : OutsideView g.row.B.Denot g.row.T.Denot). o.engine.evidence) c.in_ok-reserve.ensures.taken in
     let up = counted_up h m d n old counters c.requires.current c.args.limit c.args.line c.page_of-page.result c.place_of-place.result c.get.new.self c.get.new.counters
-    c.in_ok-block.block c.get-2.result c.of.result had ((reaches_none g.B.Bus.moved g.met.B.Bus.unmoved) c.get.new.self.bus) (reaches_on g.B.Bus.moved g.met.B.Bus.moved_on) c.reserve.new.self c.reserve.new.self c.count.new.self
-    c.count.result c.in_ok-reserve.ensures.taken ((reaches_none g.B.Bus.moved g.met.B.Bus.unmoved) c.reserve.new.self.bus) (refl, refl) refl u.geometry u.few u.came u.fits (λ fit quiet. u.outcome_is) (λ fit quiet. u.now) (λ fit quiet. u.others) in
+    c.in_ok-block.block c.get-2.result c.of.result had g.met.B.Bus.unmoved g.met.B.Bus.moved_on c.reserve.new.self c.reserve.new.self c.count.new.self
+    c.count.result c.in_ok-reserve.ensures.taken (refl, refl) refl u.geometry u.few u.came u.fits (λ fit quiet. u.outcome_is) (λ fit quiet. u.now) (λ fit quiet. u.others) in
     let s = c.seal.ensures in
     let wrote = c.in_ok-seal-in-Line.ensures.ok in
     let put = sealed_line (tags_of d n c.reserve.new.self.engine) c.args.line c.in-Line.counter
@@ -418,10 +467,22 @@ returns-in_ok-seal-in-Line g c =
     let last_accesses = one_access c.args.line put (h c.reserve.new.self.bus) (h c.seal.new.self.bus) wrote in
     record {
       written = line_written h m d n old counters c.requires.current c.args.limit c.args.line c.page_of-page.result c.place_of-place.result c.get.new.self c.get.new.counters
-          c.in_ok-block.block c.get-2.result c.of.result had ((reaches_none g.B.Bus.moved g.met.B.Bus.unmoved) c.get.new.self.bus) (reaches_on g.B.Bus.moved g.met.B.Bus.moved_on) c.reserve.new.self c.reserve.new.self c.count.new.self
+          c.in_ok-block.block c.get-2.result c.of.result had g.met.B.Bus.unmoved g.met.B.Bus.moved_on c.reserve.new.self c.reserve.new.self c.count.new.self
           c.count.result up c.requires.started (e.read c.requires.fits) c.args.bytes.now c.in-Line.counter c.in-Line.is
-          (c.count.ensures.line c.in-Line.counter c.in-Line.is).written c.of.ensures.line c.seal.new.self s.used s.made s.undone s.moves s.moved s.honest
-          c.requires.risen wrote;
+          (c.count.ensures.line c.in-Line.counter c.in-Line.is).written c.of.ensures.line c.seal.new.self s.used s.made s.undone s.moves s.honest
+          c.requires.risen c.in_ok-seal-in-Line.ensures.accesses wrote;
+      under = write_counted h m (tags_of d n) c.args.line old counters c.get.new.self c.get.new.counters (had_first h m (tags_of d n) c.args.line old counters c.get.new.self c.get.new.counters c.page_of-page.result None c.page_of-page.ensures.page e.had e.step.trace e.pads) c.args.limit c.of.result
+          (foreseen_by c.get.new.counters c.get.new.self.engine.made c.args.line c.page_of-page.result c.place_of-place.result c.args.limit c.in_ok-block.block c.get-2.result c.of.result
+          c.page_of-page.ensures.page c.place_of-place.ensures.place e.answer c.get-2.ensures.counter c.of.ensures.outcome)
+          c.seal.new.self c.count.new.self None c.page_of-page.result c.place_of-place.result c.count.result 1
+          c.page_of-page.ensures.page c.place_of-place.ensures.place c.count.ensures.counted
+          (counted_as_foreseen c.get.new.counters c.count.new.self c.get.new.self.engine.made c.page_of-page.result c.place_of-place.result c.args.limit c.in_ok-block.block c.get-2.result c.of.result c.count.result
+          e.answer c.get-2.ensures.counter c.of.ensures.outcome c.count.ensures.counted)
+          c.in_default.not-Spent (λ other is. absurd (cc))
+          (entries_of_line c.get.new.self c.reserve.new.self c.seal.new.self.pads.used c.args.line c.in-Line.counter c.count.result c.in_ok-reserve.ensures.taken c.in-Line.is
+          (c.count.ensures.line c.in-Line.counter c.in-Line.is).written (ap (λ (p : PadEngineView). p.used) s.used))
+          (messages_of_line c.get.new.self c.reserve.new.self c.seal.new.self.engine _ c.in_ok-reserve.ensures.taken s.made)
+          (λ counter is. (refl, omega (arith, same_accesses, last_accesses))) (omega (arith, same_accesses, last_accesses));
       cached = λ going. subst (λ (p : ℕ). Contains (cached_pages c.count.new.self) p) c.page_of-page.ensures.page u.cached;
       pages = u.inside old.engine.geometry e.pages;
       accepted = λ at under sealed made_count quiet is.
@@ -439,7 +500,7 @@ returns-in_ok-seal-in-Line g c =
 pub reencrypt_page-requires : goal.reencrypt_page-requires
 reencrypt_page-requires g c =
     let h = g.B.Bus.history in
-    let m = (Reaches g.B.Bus.moved) in
+    let m = g.B.Bus.moved in
     let d = g.T.Tagger.data_tag_of in
     let n = g.T.Tagger.node_tag_of in
     let old = c.args.outside.now in
@@ -471,31 +532,31 @@ reencrypt_page-requires g c =
     let same_geometry : c.reserve.new.self.engine.geometry ≡ old.engine.geometry =
     ap (λ (o : OutsideView g.row.B.Denot g.row.T.Denot). o.engine.geometry) c.in_ok-reserve.ensures.taken ∙ e.step.step.geometry in
     let same_accesses = ap (λ (t : BusHistory). t.accesses) same_bus in
-    let u = counted_up_by g.B.Bus.history (Reaches g.B.Bus.moved) g.T.Tagger.data_tag_of g.T.Tagger.node_tag_of c.reserve.new.self c.get.new.counters c.count.new.self c.page_of-page.result c.place_of-place.result c.args.limit c.count.result c.count.ensures.counted e.copied c.count.ensures.copies in
+    let u = counted_up_by g.B.Bus.history g.B.Bus.moved g.T.Tagger.data_tag_of g.T.Tagger.node_tag_of c.reserve.new.self c.get.new.counters c.count.new.self c.page_of-page.result c.place_of-place.result c.args.limit c.count.result c.count.ensures.counted e.copied c.count.ensures.copies in
     let up = counted_up h m d n old counters c.requires.current c.args.limit c.args.line c.page_of-page.result c.place_of-place.result c.get.new.self c.get.new.counters
-    c.in_ok-block.block c.get-2.result c.of.result had ((reaches_none g.B.Bus.moved g.met.B.Bus.unmoved) c.get.new.self.bus) (reaches_on g.B.Bus.moved g.met.B.Bus.moved_on) c.reserve.new.self c.reserve.new.self c.count.new.self
-    c.count.result c.in_ok-reserve.ensures.taken ((reaches_none g.B.Bus.moved g.met.B.Bus.unmoved) c.reserve.new.self.bus) (refl, refl) refl u.geometry u.few u.came u.fits (λ fit quiet. u.outcome_is) (λ fit quiet. u.now) (λ fit quiet. u.others) in
+    c.in_ok-block.block c.get-2.result c.of.result had g.met.B.Bus.unmoved g.met.B.Bus.moved_on c.reserve.new.self c.reserve.new.self c.count.new.self
+    c.count.result c.in_ok-reserve.ensures.taken (refl, refl) refl u.geometry u.few u.came u.fits (λ fit quiet. u.outcome_is) (λ fit quiet. u.now) (λ fit quiet. u.others) in
     let rooms = mid_rooms h m d n old counters c.requires.current c.args.limit c.args.line c.page_of-page.result c.place_of-place.result c.get.new.self c.get.new.counters
-    c.in_ok-block.block c.get-2.result c.of.result had ((reaches_none g.B.Bus.moved g.met.B.Bus.unmoved) c.get.new.self.bus) (reaches_on g.B.Bus.moved g.met.B.Bus.moved_on) c.reserve.new.self c.reserve.new.self c.count.new.self
+    c.in_ok-block.block c.get-2.result c.of.result had g.met.B.Bus.unmoved g.met.B.Bus.moved_on c.reserve.new.self c.reserve.new.self c.count.new.self
     c.count.result up in
     record {
       inside = mid_inside h m d n old counters c.requires.current c.args.limit c.args.line c.page_of-page.result c.place_of-place.result c.get.new.self c.get.new.counters
-          c.in_ok-block.block c.get-2.result c.of.result had ((reaches_none g.B.Bus.moved g.met.B.Bus.unmoved) c.get.new.self.bus) (reaches_on g.B.Bus.moved g.met.B.Bus.moved_on) c.reserve.new.self c.reserve.new.self c.count.new.self
+          c.in_ok-block.block c.get-2.result c.of.result had g.met.B.Bus.unmoved g.met.B.Bus.moved_on c.reserve.new.self c.reserve.new.self c.count.new.self
           c.count.result up;
       consistent = mid_kept h m d n old counters c.requires.current c.args.limit c.args.line c.page_of-page.result c.place_of-place.result c.get.new.self c.get.new.counters
-          c.in_ok-block.block c.get-2.result c.of.result had ((reaches_none g.B.Bus.moved g.met.B.Bus.unmoved) c.get.new.self.bus) (reaches_on g.B.Bus.moved g.met.B.Bus.moved_on) c.reserve.new.self c.reserve.new.self c.count.new.self
+          c.in_ok-block.block c.get-2.result c.of.result had g.met.B.Bus.unmoved g.met.B.Bus.moved_on c.reserve.new.self c.reserve.new.self c.count.new.self
           c.count.result up;
       holds_last = mid_last h m d n old counters c.requires.current c.args.limit c.args.line c.page_of-page.result c.place_of-place.result c.get.new.self c.get.new.counters
-          c.in_ok-block.block c.get-2.result c.of.result had ((reaches_none g.B.Bus.moved g.met.B.Bus.unmoved) c.get.new.self.bus) (reaches_on g.B.Bus.moved g.met.B.Bus.moved_on) c.reserve.new.self c.reserve.new.self c.count.new.self
+          c.in_ok-block.block c.get-2.result c.of.result had g.met.B.Bus.unmoved g.met.B.Bus.moved_on c.reserve.new.self c.reserve.new.self c.count.new.self
           c.count.result up;
       risen = mid_rose h m d n old counters c.requires.current c.args.limit c.args.line c.page_of-page.result c.place_of-place.result c.get.new.self c.get.new.counters
-          c.in_ok-block.block c.get-2.result c.of.result had ((reaches_none g.B.Bus.moved g.met.B.Bus.unmoved) c.get.new.self.bus) (reaches_on g.B.Bus.moved g.met.B.Bus.moved_on) c.reserve.new.self c.reserve.new.self c.count.new.self
+          c.in_ok-block.block c.get-2.result c.of.result had g.met.B.Bus.unmoved g.met.B.Bus.moved_on c.reserve.new.self c.reserve.new.self c.count.new.self
           c.count.result up c.requires.risen;
       counters = mid_counters h m d n old counters c.requires.current c.args.limit c.args.line c.page_of-page.result c.place_of-place.result c.get.new.self c.get.new.counters
-          c.in_ok-block.block c.get-2.result c.of.result had ((reaches_none g.B.Bus.moved g.met.B.Bus.unmoved) c.get.new.self.bus) (reaches_on g.B.Bus.moved g.met.B.Bus.moved_on) c.reserve.new.self c.reserve.new.self c.count.new.self
+          c.in_ok-block.block c.get-2.result c.of.result had g.met.B.Bus.unmoved g.met.B.Bus.moved_on c.reserve.new.self c.reserve.new.self c.count.new.self
           c.count.result up c.requires.started;
       later = mid_later h m d n old counters c.requires.current c.args.limit c.args.line c.page_of-page.result c.place_of-place.result c.get.new.self c.get.new.counters
-          c.in_ok-block.block c.get-2.result c.of.result had ((reaches_none g.B.Bus.moved g.met.B.Bus.unmoved) c.get.new.self.bus) (reaches_on g.B.Bus.moved g.met.B.Bus.moved_on) c.reserve.new.self c.reserve.new.self c.count.new.self
+          c.in_ok-block.block c.get-2.result c.of.result had g.met.B.Bus.unmoved g.met.B.Bus.moved_on c.reserve.new.self c.reserve.new.self c.count.new.self
           c.count.result up c.in-Page.raised c.in-Page.is c.of.ensures.overflow;
       room = rooms.1;
       pads_room = rooms.0;
@@ -504,7 +565,7 @@ reencrypt_page-requires g c =
 pub returns-in-Page : goal.returns-in-Page
 returns-in-Page g c =
     let h = g.B.Bus.history in
-    let m = (Reaches g.B.Bus.moved) in
+    let m = g.B.Bus.moved in
     let d = g.T.Tagger.data_tag_of in
     let n = g.T.Tagger.node_tag_of in
     let old = c.args.outside.now in
@@ -539,19 +600,32 @@ returns-in-Page g c =
     let same_geometry : c.reserve.new.self.engine.geometry ≡ old.engine.geometry =
     ap (λ (o : OutsideView g.row.B.Denot g.row.T.Denot). o.engine.geometry) c.in_ok-reserve.ensures.taken ∙ e.step.step.geometry in
     let same_accesses = ap (λ (t : BusHistory). t.accesses) same_bus in
-    let u = counted_up_by g.B.Bus.history (Reaches g.B.Bus.moved) g.T.Tagger.data_tag_of g.T.Tagger.node_tag_of c.reserve.new.self c.get.new.counters c.count.new.self c.page_of-page.result c.place_of-place.result c.args.limit c.count.result c.count.ensures.counted e.copied c.count.ensures.copies in
+    let u = counted_up_by g.B.Bus.history g.B.Bus.moved g.T.Tagger.data_tag_of g.T.Tagger.node_tag_of c.reserve.new.self c.get.new.counters c.count.new.self c.page_of-page.result c.place_of-place.result c.args.limit c.count.result c.count.ensures.counted e.copied c.count.ensures.copies in
     let bumped_evidence : c.reserve.new.self.engine.evidence ≡ c.get.new.self.engine.evidence = ap (λ (o : OutsideView g.row.B.Denot g.row.T.Denot). o.engine.evidence) c.in_ok-reserve.ensures.taken in
     let bumped_used = ap (λ (o : OutsideView g.row.B.Denot g.row.T.Denot). length o.pads.used) c.in_ok-reserve.ensures.taken ∙ ap length e.step.used in
     let write : LineWrite = record { line = c.args.line; bytes = c.args.bytes.now; counter = record { page = c.in-Page.raised; line = 0 } } in
     let up = counted_up h m d n old counters c.requires.current c.args.limit c.args.line c.page_of-page.result c.place_of-place.result c.get.new.self c.get.new.counters
-    c.in_ok-block.block c.get-2.result c.of.result had ((reaches_none g.B.Bus.moved g.met.B.Bus.unmoved) c.get.new.self.bus) (reaches_on g.B.Bus.moved g.met.B.Bus.moved_on) c.reserve.new.self c.reserve.new.self c.count.new.self
-    c.count.result c.in_ok-reserve.ensures.taken ((reaches_none g.B.Bus.moved g.met.B.Bus.unmoved) c.reserve.new.self.bus) (refl, refl) refl u.geometry u.few u.came u.fits (λ fit quiet. u.outcome_is) (λ fit quiet. u.now) (λ fit quiet. u.others) in
+    c.in_ok-block.block c.get-2.result c.of.result had g.met.B.Bus.unmoved g.met.B.Bus.moved_on c.reserve.new.self c.reserve.new.self c.count.new.self
+    c.count.result c.in_ok-reserve.ensures.taken (refl, refl) refl u.geometry u.few u.came u.fits (λ fit quiet. u.outcome_is) (λ fit quiet. u.now) (λ fit quiet. u.others) in
     let p = c.reencrypt_page.ensures in
     record {
       written = page_written h m d n old counters c.requires.current c.args.limit c.args.line c.page_of-page.result c.place_of-place.result c.get.new.self c.get.new.counters
-          c.in_ok-block.block c.get-2.result c.of.result had ((reaches_none g.B.Bus.moved g.met.B.Bus.unmoved) c.get.new.self.bus) (reaches_on g.B.Bus.moved g.met.B.Bus.moved_on) c.reserve.new.self c.reserve.new.self c.count.new.self
+          c.in_ok-block.block c.get-2.result c.of.result had g.met.B.Bus.unmoved g.met.B.Bus.moved_on c.reserve.new.self c.reserve.new.self c.count.new.self
           c.count.result up c.requires.started (e.read c.requires.fits) c.args.bytes.now c.in-Page.raised c.in-Page.is c.of.ensures.overflow
           c.reencrypt_page.new.self (result_err c.reencrypt_page.result) p.sealed;
+      under = write_counted h m (tags_of d n) c.args.line old counters c.get.new.self c.get.new.counters (had_first h m (tags_of d n) c.args.line old counters c.get.new.self c.get.new.counters c.page_of-page.result None c.page_of-page.ensures.page e.had e.step.trace e.pads) c.args.limit c.of.result
+          (foreseen_by c.get.new.counters c.get.new.self.engine.made c.args.line c.page_of-page.result c.place_of-place.result c.args.limit c.in_ok-block.block c.get-2.result c.of.result
+          c.page_of-page.ensures.page c.place_of-place.ensures.place e.answer c.get-2.ensures.counter c.of.ensures.outcome)
+          c.reencrypt_page.new.self c.count.new.self (result_err c.reencrypt_page.result) c.page_of-page.result c.place_of-place.result c.count.result p.sealed.count
+          c.page_of-page.ensures.page c.place_of-place.ensures.place c.count.ensures.counted
+          (counted_as_foreseen c.get.new.counters c.count.new.self c.get.new.self.engine.made c.page_of-page.result c.place_of-place.result c.args.limit c.in_ok-block.block c.get-2.result c.of.result c.count.result
+          e.answer c.get-2.ensures.counter c.of.ensures.outcome c.count.ensures.counted)
+          c.in_default.not-Spent p.sealed.sealed.unspent
+          (entries_of_page c.get.new.self c.reserve.new.self c.reencrypt_page.new.self.pads.used c.args.line c.in-Page.raised p.sealed.count c.count.result
+          c.in_ok-reserve.ensures.taken c.in-Page.is p.sealed.sealed.entries)
+          (messages_of_page c.get.new.self c.reserve.new.self c.reencrypt_page.new.self.engine.made p.sealed.sealed.step.more (page_lines (page_of c.args.line)) p.sealed.count
+          c.in_ok-reserve.ensures.taken p.sealed.sealed.step.made p.sealed.sealed.as_many p.sealed.within)
+          (λ counter is. let both : Page c.in-Page.raised ≡ Line counter = sym c.in-Page.is ∙ is in absurd (cc)) (omega (arith, same_accesses, p.once));
       cached = λ going. subst (λ (p : ℕ). Contains (cached_pages c.count.new.self) p) c.page_of-page.ensures.page u.cached;
       pages = u.inside old.engine.geometry e.pages;
       accepted = λ at under sealed made_count quiet is.
@@ -562,12 +636,12 @@ returns-in-Page g c =
           c.reencrypt_page.new.self (result_err c.reencrypt_page.result) p.sealed.sealed in
           record { beside = accepted.0; since = omega (arith, accepted.1, as_many, bumped_used) };
       once = λ quiet short. absurd (short (page_overflows h m d n old counters c.requires.current c.args.limit c.args.line c.page_of-page.result c.place_of-place.result c.get.new.self c.get.new.counters
-          c.in_ok-block.block c.get-2.result c.of.result had ((reaches_none g.B.Bus.moved g.met.B.Bus.unmoved) c.get.new.self.bus) (reaches_on g.B.Bus.moved g.met.B.Bus.moved_on) c.reserve.new.self c.reserve.new.self c.count.new.self
+          c.in_ok-block.block c.get-2.result c.of.result had g.met.B.Bus.unmoved g.met.B.Bus.moved_on c.reserve.new.self c.reserve.new.self c.count.new.self
           c.count.result up c.requires.started (e.read c.requires.fits) c.args.bytes.now c.in-Page.raised c.in-Page.is c.of.ensures.overflow
           c.reencrypt_page.new.self (result_err c.reencrypt_page.result) p.sealed quiet));
       few = omega (arith, e.once, same_accesses, same_geometry, p.once);
       hit = λ cached quiet short. absurd (short (page_overflows h m d n old counters c.requires.current c.args.limit c.args.line c.page_of-page.result c.place_of-place.result c.get.new.self c.get.new.counters
-          c.in_ok-block.block c.get-2.result c.of.result had ((reaches_none g.B.Bus.moved g.met.B.Bus.unmoved) c.get.new.self.bus) (reaches_on g.B.Bus.moved g.met.B.Bus.moved_on) c.reserve.new.self c.reserve.new.self c.count.new.self
+          c.in_ok-block.block c.get-2.result c.of.result had g.met.B.Bus.unmoved g.met.B.Bus.moved_on c.reserve.new.self c.reserve.new.self c.count.new.self
           c.count.result up c.requires.started (e.read c.requires.fits) c.args.bytes.now c.in-Page.raised c.in-Page.is c.of.ensures.overflow
           c.reencrypt_page.new.self (result_err c.reencrypt_page.result) p.sealed quiet));
       hit_overflow = λ cached. let same = still cached in omega (arith, same, same_accesses, p.once);

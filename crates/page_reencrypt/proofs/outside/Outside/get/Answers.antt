@@ -2,7 +2,6 @@ use Rattle.std.proofs.Common.{◌≡◌, ◌≤◌, ◌+◌, ap, sym, subst}
 use Rattle.std.specs.Result.{result_err}
 use Rattle.sec_base.specs.Geometry.{GeometryView}
 use Rattle.sec_base.proofs.Results.{was_none}
-use Rattle.bus_model.specs.Access.{Reaches}
 use Rattle.tag_engine.specs.TagEngine.{tags_of}
 use Rattle.bonsai_tree.specs.Tree.{SlotsAreTags}
 use Rattle.counter_cache.specs.Counters.{counter_accesses, counters_in}
@@ -22,18 +21,18 @@ returns-clause-step g c =
     let n = g.T.Tagger.node_tag_of in
     let h = g.B.Bus.history in
     let geometry : c.args.counters.now.tree.geometry ≡ old.engine.geometry = rw (← c.self.view_is) at c.requires.geometry in
-    let kept : AreConsistent (terms_of h (Reaches g.B.Bus.moved) d n old) old = rw (← c.self.view_is) at c.requires.consistent in
-    let last : HaveLast (terms_of h (Reaches g.B.Bus.moved) d n old) old = rw (← c.self.view_is) at c.requires.holds_last in
-    let nodes : HaveLastNodes (terms_of h (Reaches g.B.Bus.moved) d n old) old = rw (← c.self.view_is) at c.requires.nodes_hold_last in
+    let kept : AreConsistent (terms_of h g.B.Bus.moved d n old) old = rw (← c.self.view_is) at c.requires.consistent in
+    let last : HaveLast (terms_of h g.B.Bus.moved d n old) old = rw (← c.self.view_is) at c.requires.holds_last in
+    let nodes : HaveLastNodes (terms_of h g.B.Bus.moved d n old) old = rw (← c.self.view_is) at c.requires.nodes_hold_last in
     let has = c.get.ensures.had.has in
     rw (← c.self.view_is)
-    (node_step h (Reaches g.B.Bus.moved) d n old c.get.new.bus c.get.new.tags c.args.counters.now.tree _ geometry kept last nodes
-    c.get.ensures.moved has.moves has.lines (has_writes g.T.Tagger.data_tag_of g.T.Tagger.node_tag_of c.args.page c.args.counters.now c.get.new.self (g.B.Bus.history c.self.inside.bus) (g.B.Bus.history c.get.new.bus) c.self.inside.tags c.get.new.tags (result_err c.get.result) c.get.ensures.had.has) has.made_blocks (λ was goes_on. has.last_blocks goes_on was))
+    (node_step h g.B.Bus.moved d n old c.get.new.bus c.get.new.tags c.args.counters.now.tree _ geometry kept last nodes
+    c.get.ensures.accesses has.moves has.lines (has_writes g.T.Tagger.data_tag_of g.T.Tagger.node_tag_of c.args.page c.args.counters.now c.get.new.self (g.B.Bus.history c.self.inside.bus) (g.B.Bus.history c.get.new.bus) c.self.inside.tags c.get.new.tags (result_err c.get.result) c.get.ensures.had.has) has.made_blocks (λ was goes_on. has.last_blocks goes_on was))
 
 pub returns-clause-block : goal.returns-clause-block
 returns-clause-block g c = λ fits quiet.
     let old : OutsideView g.row.B.Denot g.row.T.Denot = record { bus = c.self.inside.bus; engine = c.self.inside.tags; pads = c.self.inside.pads } in
-    let was = fits_before g.B.Bus.history (Reaches g.B.Bus.moved) g.T.Tagger.data_tag_of g.T.Tagger.node_tag_of old c.get.new.bus c.get.new.tags c.args.counters.now
+    let was = fits_before g.B.Bus.history g.B.Bus.moved g.T.Tagger.data_tag_of g.T.Tagger.node_tag_of old c.get.new.bus c.get.new.tags c.args.counters.now
     (rw (← c.self.view_is) at fits) in
     rw (← c.self.view_is) (ok_same c.get.result (counters_in c.get.new.self c.get.new.tags.made c.args.page) (counters_in c.args.counters.now c.self.inside.tags.made c.args.page)
     (c.get.ensures.had.has.same was quiet c.args.page) c.get.ensures.answer)
@@ -41,19 +40,19 @@ returns-clause-block g c = λ fits quiet.
 pub returns-clause-same : goal.returns-clause-same
 returns-clause-same g c = λ fits quiet.
     let old : OutsideView g.row.B.Denot g.row.T.Denot = record { bus = c.self.inside.bus; engine = c.self.inside.tags; pads = c.self.inside.pads } in
-    let was = fits_before g.B.Bus.history (Reaches g.B.Bus.moved) g.T.Tagger.data_tag_of g.T.Tagger.node_tag_of old c.get.new.bus c.get.new.tags c.args.counters.now
+    let was = fits_before g.B.Bus.history g.B.Bus.moved g.T.Tagger.data_tag_of g.T.Tagger.node_tag_of old c.get.new.bus c.get.new.tags c.args.counters.now
     (rw (← c.self.view_is) at fits) in
     rw (← c.self.view_is) (c.get.ensures.had.has.same was quiet)
 
 pub returns-clause-fits : goal.returns-clause-fits
 returns-clause-fits g c = λ fits.
     let old : OutsideView g.row.B.Denot g.row.T.Denot = record { bus = c.self.inside.bus; engine = c.self.inside.tags; pads = c.self.inside.pads } in
-    let was = fits_before g.B.Bus.history (Reaches g.B.Bus.moved) g.T.Tagger.data_tag_of g.T.Tagger.node_tag_of old c.get.new.bus c.get.new.tags c.args.counters.now
+    let was = fits_before g.B.Bus.history g.B.Bus.moved g.T.Tagger.data_tag_of g.T.Tagger.node_tag_of old c.get.new.bus c.get.new.tags c.args.counters.now
     (rw (← c.self.view_is) at fits) in
     let has = c.get.ensures.had.has in
     rw (← c.self.view_is)
     (ok_map c.get.result
-    (fits_after g.B.Bus.history (Reaches g.B.Bus.moved) g.T.Tagger.data_tag_of g.T.Tagger.node_tag_of old c.get.new.bus c.get.new.tags c.get.new.self
+    (fits_after g.B.Bus.history g.B.Bus.moved g.T.Tagger.data_tag_of g.T.Tagger.node_tag_of old c.get.new.bus c.get.new.tags c.get.new.self
     has.moves.tagger has.moves.geometry)
     (ok_with_memory c.get.result (has.holds was)))
 
@@ -63,10 +62,10 @@ returns-clause-nodes g c = λ inside fits says quiet said.
     let d = g.T.Tagger.data_tag_of in
     let n = g.T.Tagger.node_tag_of in
     let h = g.B.Bus.history in
-    let was = fits_before h (Reaches g.B.Bus.moved) d n old c.get.new.bus c.get.new.tags c.args.counters.now (rw (← c.self.view_is) at fits) in
+    let was = fits_before h g.B.Bus.moved d n old c.get.new.bus c.get.new.tags c.args.counters.now (rw (← c.self.view_is) at fits) in
     let geometry : c.args.counters.now.tree.geometry ≡ old.engine.geometry = rw (← c.self.view_is) at c.requires.geometry in
     let pages : AreOfPages old.engine.geometry c.args.counters.now = rw (← c.self.view_is) at inside in
-    let say : CountersSay (terms_of h (Reaches g.B.Bus.moved) d n old) old c.args.counters.now = rw (← c.self.view_is) at says in
+    let say : CountersSay (terms_of h g.B.Bus.moved d n old) old c.args.counters.now = rw (← c.self.view_is) at says in
     let before : NodesSay (tags_of d n old.engine) old.engine.geometry old.pads.used old.engine.made = rw (← c.self.view_is) at said in
     let step = c.get.ensures.had.has in
     rw (← c.self.view_is)
@@ -80,14 +79,14 @@ returns-clause-nodes g c = λ inside fits says quiet said.
 pub returns-clause-shows : goal.returns-clause-shows
 returns-clause-shows g c = λ fits quiet.
     let old : OutsideView g.row.B.Denot g.row.T.Denot = record { bus = c.self.inside.bus; engine = c.self.inside.tags; pads = c.self.inside.pads } in
-    let was = fits_before g.B.Bus.history (Reaches g.B.Bus.moved) g.T.Tagger.data_tag_of g.T.Tagger.node_tag_of old c.get.new.bus c.get.new.tags c.args.counters.now
+    let was = fits_before g.B.Bus.history g.B.Bus.moved g.T.Tagger.data_tag_of g.T.Tagger.node_tag_of old c.get.new.bus c.get.new.tags c.args.counters.now
     (rw (← c.self.view_is) at fits) in
     rw (← c.self.view_is) (shows_by c.get.new.tags.evidence (c.get.ensures.had.has.shown was (rw (← c.self.view_is) at quiet)))
 
 pub returns-clause-accounted : goal.returns-clause-accounted
 returns-clause-accounted g c = λ fits used.
     let old : OutsideView g.row.B.Denot g.row.T.Denot = record { bus = c.self.inside.bus; engine = c.self.inside.tags; pads = c.self.inside.pads } in
-    let was = fits_before g.B.Bus.history (Reaches g.B.Bus.moved) g.T.Tagger.data_tag_of g.T.Tagger.node_tag_of old c.get.new.bus c.get.new.tags c.args.counters.now
+    let was = fits_before g.B.Bus.history g.B.Bus.moved g.T.Tagger.data_tag_of g.T.Tagger.node_tag_of old c.get.new.bus c.get.new.tags c.args.counters.now
     (rw (← c.self.view_is) at fits) in
     rw (← c.self.view_is) (c.get.ensures.had.has.honest was c.self.inside.pads.used (rw (← c.self.view_is) at used))
 
@@ -104,7 +103,7 @@ returns-clause-tampered g c = λ place is. (
   rw (← c.requires.geometry) (c.get.ensures.had.has.tampered place (ap result_err is)),
   λ fits quiet.
       let old : OutsideView g.row.B.Denot g.row.T.Denot = record { bus = c.self.inside.bus; engine = c.self.inside.tags; pads = c.self.inside.pads } in
-      let was = fits_before g.B.Bus.history (Reaches g.B.Bus.moved) g.T.Tagger.data_tag_of g.T.Tagger.node_tag_of old c.get.new.bus c.get.new.tags c.args.counters.now
+      let was = fits_before g.B.Bus.history g.B.Bus.moved g.T.Tagger.data_tag_of g.T.Tagger.node_tag_of old c.get.new.bus c.get.new.tags c.args.counters.now
       (rw (← c.self.view_is) at fits) in
       rw (← c.self.view_is) (c.get.ensures.had.has.lied was (rw (← c.self.view_is) at quiet) place (ap result_err is)),
 )
@@ -112,7 +111,7 @@ returns-clause-tampered g c = λ place is. (
 pub returns-clause-read : goal.returns-clause-read
 returns-clause-read g c = λ fits quiet missed.
     let old : OutsideView g.row.B.Denot g.row.T.Denot = record { bus = c.self.inside.bus; engine = c.self.inside.tags; pads = c.self.inside.pads } in
-    let was = fits_before g.B.Bus.history (Reaches g.B.Bus.moved) g.T.Tagger.data_tag_of g.T.Tagger.node_tag_of old c.get.new.bus c.get.new.tags c.args.counters.now
+    let was = fits_before g.B.Bus.history g.B.Bus.moved g.T.Tagger.data_tag_of g.T.Tagger.node_tag_of old c.get.new.bus c.get.new.tags c.args.counters.now
     (rw (← c.self.view_is) at fits) in
     rw (← c.self.view_is) (ok_by c.get.result (c.get.ensures.had.path was quiet missed))
 
@@ -126,7 +125,7 @@ returns-clause-few_copies g c = had_few g.T.Tagger.data_tag_of g.T.Tagger.node_t
 pub returns-clause-copies : goal.returns-clause-copies
 returns-clause-copies g c = λ fits quiet.
     let old : OutsideView g.row.B.Denot g.row.T.Denot = record { bus = c.self.inside.bus; engine = c.self.inside.tags; pads = c.self.inside.pads } in
-    let was = fits_before g.B.Bus.history (Reaches g.B.Bus.moved) g.T.Tagger.data_tag_of g.T.Tagger.node_tag_of old c.get.new.bus c.get.new.tags c.args.counters.now
+    let was = fits_before g.B.Bus.history g.B.Bus.moved g.T.Tagger.data_tag_of g.T.Tagger.node_tag_of old c.get.new.bus c.get.new.tags c.args.counters.now
     (rw (← c.self.view_is) at fits) in
     rw (← c.self.view_is)
     (had_came g.T.Tagger.data_tag_of g.T.Tagger.node_tag_of c.args.counters.now c.get.new.self (g.B.Bus.history c.self.inside.bus) (g.B.Bus.history c.get.new.bus) c.self.inside.tags c.get.new.tags c.args.page c.get.result c.get.ensures.had was quiet)
@@ -134,7 +133,7 @@ returns-clause-copies g c = λ fits quiet.
 pub returns-clause-unread : goal.returns-clause-unread
 returns-clause-unread g c = λ fits quiet.
     let old : OutsideView g.row.B.Denot g.row.T.Denot = record { bus = c.self.inside.bus; engine = c.self.inside.tags; pads = c.self.inside.pads } in
-    let was = fits_before g.B.Bus.history (Reaches g.B.Bus.moved) g.T.Tagger.data_tag_of g.T.Tagger.node_tag_of old c.get.new.bus c.get.new.tags c.args.counters.now
+    let was = fits_before g.B.Bus.history g.B.Bus.moved g.T.Tagger.data_tag_of g.T.Tagger.node_tag_of old c.get.new.bus c.get.new.tags c.args.counters.now
     (rw (← c.self.view_is) at fits) in
     rw (← c.self.view_is) (c.get.ensures.had.has.unread was quiet)
 
@@ -163,3 +162,6 @@ returns-clause-once g c =
 
 pub returns-clause-copied : goal.returns-clause-copied
 returns-clause-copied g c = c.get.ensures.had.copies
+
+pub returns-clause-had : goal.returns-clause-had
+returns-clause-had g c = rw (← c.self.view_is) c.get.ensures.had

@@ -7,6 +7,7 @@ use Rattle.sec_base.proofs.Results.{was_none}
 use Rattle.tag_engine.specs.TagEngine.{tags_of}
 use Rattle.pad_stream.specs.Pad.{cipher_of}
 use Rattle.checked_bus.specs.Steps.{IsAccounted, IsCurrent}
+use Rattle.checked_bus.proofs.Makes.{accesses_not}
 use Rattle.page_reencrypt.specs.Contents.{line_bytes, never_written}
 use Rattle.page_reencrypt.proofs.LineReads.{current, fresh_bytes, read_counted, read_found, written_bytes}
 use Rattle.page_reencrypt.proofs.outside.Outside.read.Goals as goal
@@ -111,3 +112,18 @@ returns-clause-accepted g c = λ at under sealed made_count quiet shown.
     c.decrypt.ensures.plain ∙ ap (λ (k : Counter). cipher_of outside.pads.key c.args.line k c.in_ok-cipher.field-0) (sym accepted.1)
     ∙ ap (cipher_of outside.pads.key c.args.line under) accepted.2 in
     (accepted.0, count, rw (← c.self.view_is) (ap Ok plain))
+
+pub returns-then-eq-clause-accesses : goal.returns-then-eq-clause-accesses
+returns-then-eq-clause-accesses g c =
+    accesses_not g.B.Bus.moved g.T.Tagger.data_tag_of g.T.Tagger.node_tag_of g.met.B.Bus.unmoved c.args.self.now.bus c.args.self.now.engine None (λ place is. cc)
+
+pub returns-in_err-cipher-clause-accesses : goal.returns-in_err-cipher-clause-accesses
+returns-in_err-cipher-clause-accesses g c =
+    let read = c.read_line-cipher.ensures.makes in
+    let same : c.from_residual.result ≡ c.read_line-cipher.result = search rules in
+    rw (← c.self.view_is, same) (record { accesses = read.0; moved = read.1; has = read.2.makes.has })
+
+pub returns-clause-accesses : goal.returns-clause-accesses
+returns-clause-accesses g c =
+    let read = c.in_ok-cipher.ensures.makes in
+    rw (← c.self.view_is) (record { accesses = read.0; moved = read.1; has = read.2.makes.has })

@@ -3,7 +3,6 @@ use Rattle.std.specs.Result.{result_err}
 use Rattle.sec_base.specs.declared.stop.MemStop.{MemStop}
 use Rattle.sec_base.specs.declared.stop.MemStop.TheVariants.{NoMemory}
 use Rattle.sec_base.proofs.Results.{was_none}
-use Rattle.bus_model.specs.Access.{Reaches, reaches_none, reaches_on}
 use Rattle.tag_engine.specs.TagEngine.{TagEngineView, tags_of}
 use Rattle.pad_stream.specs.Pad.{cipher_of}
 use Rattle.checked_bus.specs.SealedLine.{sealed_line}
@@ -18,75 +17,75 @@ returns-in_err-plain-clause-sealed g c =
     let why = c.in_err-plain.field-0.0 in
     let read = c.in_err-plain.ensures in
     let stop : result_err c.from_residual.result ≡ Some why = search rules in
-    subst (λ (s : Option MemStop). AreSealedInOrder (terms_of g.B.Bus.history (Reaches g.B.Bus.moved) g.T.Tagger.data_tag_of g.T.Tagger.node_tag_of c.args.self.now)
+    subst (λ (s : Option MemStop). AreSealedInOrder (terms_of g.B.Bus.history g.B.Bus.moved g.T.Tagger.data_tag_of g.T.Tagger.node_tag_of c.args.self.now)
     write c.args.self.now (c.args.at ∷ []) c.read.new.self s) (sym stop)
-    (read_stopped g.B.Bus.history (Reaches g.B.Bus.moved) g.T.Tagger.data_tag_of g.T.Tagger.node_tag_of write c.args.self.now c.requires.consistent c.requires.risen c.requires.holds_last
+    (read_stopped g.B.Bus.history g.B.Bus.moved g.T.Tagger.data_tag_of g.T.Tagger.node_tag_of write c.args.self.now c.requires.consistent c.requires.risen c.requires.holds_last
     c.args.at c.read.new.self why
-    (read_sealed g.B.Bus.history (Reaches g.B.Bus.moved) g.T.Tagger.data_tag_of g.T.Tagger.node_tag_of write c.args.self.now c.requires.consistent c.requires.risen c.requires.holds_last
+    (read_sealed g.B.Bus.history g.B.Bus.moved g.T.Tagger.data_tag_of g.T.Tagger.node_tag_of write c.args.self.now c.requires.consistent c.requires.risen c.requires.holds_last
     c.args.at c.read.new.self (Err why) c.if-at-line.false c.requires.of_page
-    read.moved read.moves read.unmade read.room read.pads read.unwritten read.nodes read.counted read.accounted read.shows read.tampered read.unspent)
+    read.accesses read.moves read.unmade read.room read.pads read.unwritten read.nodes read.counted read.accounted read.shows read.tampered read.unspent)
     (λ place is. (read.tampered place (ap (λ (s : MemStop). Err s) is)).0))
 
 pub returns-in_err-seal-clause-sealed : goal.returns-in_err-seal-clause-sealed
 returns-in_err-seal-clause-sealed g c =
     let write : LineWrite = record { line = c.args.line; bytes = c.args.bytes.now; counter = c.args.counter } in
     let stop : result_err c.from_residual-in_err-seal.result ≡ Some NoMemory = search rules in
-    let ready : IsReady g.B.Bus.history (Reaches g.B.Bus.moved) g.T.Tagger.data_tag_of g.T.Tagger.node_tag_of write c.args.self.now c.requires.consistent c.requires.risen c.requires.holds_last
+    let ready : IsReady g.B.Bus.history g.B.Bus.moved g.T.Tagger.data_tag_of g.T.Tagger.node_tag_of write c.args.self.now c.requires.consistent c.requires.risen c.requires.holds_last
     c.args.at c.if-at-line.plain c.if-at-line.self =
     elim c.if-at-line.branch [
       | then-at-line w ↦
           subst (λ (o : OutsideView g.row.B.Denot g.row.T.Denot).
-          IsReady g.B.Bus.history (Reaches g.B.Bus.moved) g.T.Tagger.data_tag_of g.T.Tagger.node_tag_of write c.args.self.now c.requires.consistent c.requires.risen c.requires.holds_last
+          IsReady g.B.Bus.history g.B.Bus.moved g.T.Tagger.data_tag_of g.T.Tagger.node_tag_of write c.args.self.now c.requires.consistent c.requires.risen c.requires.holds_last
           c.args.at c.if-at-line.plain o) (sym w.self-is)
-          (ready_own g.B.Bus.history (Reaches g.B.Bus.moved) g.T.Tagger.data_tag_of g.T.Tagger.node_tag_of write c.args.self.now c.requires.consistent c.requires.risen c.requires.holds_last
-          c.args.at c.if-at-line.plain ((reaches_none g.B.Bus.moved g.met.B.Bus.unmoved) c.args.self.now.bus) w.if-at-line.true w.plain-is)
+          (ready_own g.B.Bus.history g.B.Bus.moved g.T.Tagger.data_tag_of g.T.Tagger.node_tag_of write c.args.self.now c.requires.consistent c.requires.risen c.requires.holds_last
+          c.args.at c.if-at-line.plain g.met.B.Bus.unmoved w.if-at-line.true w.plain-is)
       | else-at-line+in_ok-plain w ↦
           let read = w.in_ok-plain.ensures in
           subst (λ (o : OutsideView g.row.B.Denot g.row.T.Denot).
-          IsReady g.B.Bus.history (Reaches g.B.Bus.moved) g.T.Tagger.data_tag_of g.T.Tagger.node_tag_of write c.args.self.now c.requires.consistent c.requires.risen c.requires.holds_last
+          IsReady g.B.Bus.history g.B.Bus.moved g.T.Tagger.data_tag_of g.T.Tagger.node_tag_of write c.args.self.now c.requires.consistent c.requires.risen c.requires.holds_last
           c.args.at c.if-at-line.plain o) (sym w.self-is)
-          (ready_read g.B.Bus.history (Reaches g.B.Bus.moved) g.T.Tagger.data_tag_of g.T.Tagger.node_tag_of write c.args.self.now c.requires.consistent c.requires.risen c.requires.holds_last
+          (ready_read g.B.Bus.history g.B.Bus.moved g.T.Tagger.data_tag_of g.T.Tagger.node_tag_of write c.args.self.now c.requires.consistent c.requires.risen c.requires.holds_last
           c.args.at c.if-at-line.plain w.in_ok-plain.plain w.read.new.self
-          (read_sealed g.B.Bus.history (Reaches g.B.Bus.moved) g.T.Tagger.data_tag_of g.T.Tagger.node_tag_of write c.args.self.now c.requires.consistent c.requires.risen c.requires.holds_last
+          (read_sealed g.B.Bus.history g.B.Bus.moved g.T.Tagger.data_tag_of g.T.Tagger.node_tag_of write c.args.self.now c.requires.consistent c.requires.risen c.requires.holds_last
           c.args.at w.read.new.self (Ok w.in_ok-plain.plain) w.if-at-line.false c.requires.of_page
-          read.moved read.moves read.unmade read.room read.pads read.unwritten read.nodes read.counted read.accounted read.shows read.tampered read.unspent)
+          read.accesses read.moves read.unmade read.room read.pads read.unwritten read.nodes read.counted read.accounted read.shows read.tampered read.unspent)
           read.unmade read.pads read.once w.if-at-line.false w.plain-is read.value (λ quiet. read.rose (was_none c.args.self.now.engine.evidence w.read.new.self.engine.evidence read.moves.evidence quiet) (λ is. cc)))
     ] in
-    subst (λ (s : Option MemStop). AreSealedInOrder (terms_of g.B.Bus.history (Reaches g.B.Bus.moved) g.T.Tagger.data_tag_of g.T.Tagger.node_tag_of c.args.self.now)
+    subst (λ (s : Option MemStop). AreSealedInOrder (terms_of g.B.Bus.history g.B.Bus.moved g.T.Tagger.data_tag_of g.T.Tagger.node_tag_of c.args.self.now)
     write c.args.self.now (c.args.at ∷ []) c.seal.new.self s) (sym stop)
-    (line_unwritten g.B.Bus.history (Reaches g.B.Bus.moved) g.T.Tagger.data_tag_of g.T.Tagger.node_tag_of write c.args.self.now c.requires.consistent c.requires.risen c.requires.holds_last
+    (line_unwritten g.B.Bus.history g.B.Bus.moved g.T.Tagger.data_tag_of g.T.Tagger.node_tag_of write c.args.self.now c.requires.consistent c.requires.risen c.requires.holds_last
     c.args.at c.if-at-line.plain c.if-at-line.self c.seal.new.self c.args.old ready c.requires.inside c.requires.counter
-    c.seal.ensures.used c.seal.ensures.made c.seal.ensures.undone c.seal.ensures.moves c.seal.ensures.moved c.seal.ensures.honest (reaches_on g.B.Bus.moved g.met.B.Bus.moved_on)
-    c.in_err-seal.ensures.err)
+    c.seal.ensures.used c.seal.ensures.made c.seal.ensures.undone c.seal.ensures.moves c.seal.ensures.honest g.met.B.Bus.moved_on
+    c.in_err-seal.ensures.accesses c.in_err-seal.ensures.err)
 
 pub returns-clause-sealed : goal.returns-clause-sealed
 returns-clause-sealed g c =
     let write : LineWrite = record { line = c.args.line; bytes = c.args.bytes.now; counter = c.args.counter } in
-    let ready : IsReady g.B.Bus.history (Reaches g.B.Bus.moved) g.T.Tagger.data_tag_of g.T.Tagger.node_tag_of write c.args.self.now c.requires.consistent c.requires.risen c.requires.holds_last
+    let ready : IsReady g.B.Bus.history g.B.Bus.moved g.T.Tagger.data_tag_of g.T.Tagger.node_tag_of write c.args.self.now c.requires.consistent c.requires.risen c.requires.holds_last
     c.args.at c.if-at-line.plain c.if-at-line.self =
     elim c.if-at-line.branch [
       | then-at-line w ↦
           subst (λ (o : OutsideView g.row.B.Denot g.row.T.Denot).
-          IsReady g.B.Bus.history (Reaches g.B.Bus.moved) g.T.Tagger.data_tag_of g.T.Tagger.node_tag_of write c.args.self.now c.requires.consistent c.requires.risen c.requires.holds_last
+          IsReady g.B.Bus.history g.B.Bus.moved g.T.Tagger.data_tag_of g.T.Tagger.node_tag_of write c.args.self.now c.requires.consistent c.requires.risen c.requires.holds_last
           c.args.at c.if-at-line.plain o) (sym w.self-is)
-          (ready_own g.B.Bus.history (Reaches g.B.Bus.moved) g.T.Tagger.data_tag_of g.T.Tagger.node_tag_of write c.args.self.now c.requires.consistent c.requires.risen c.requires.holds_last
-          c.args.at c.if-at-line.plain ((reaches_none g.B.Bus.moved g.met.B.Bus.unmoved) c.args.self.now.bus) w.if-at-line.true w.plain-is)
+          (ready_own g.B.Bus.history g.B.Bus.moved g.T.Tagger.data_tag_of g.T.Tagger.node_tag_of write c.args.self.now c.requires.consistent c.requires.risen c.requires.holds_last
+          c.args.at c.if-at-line.plain g.met.B.Bus.unmoved w.if-at-line.true w.plain-is)
       | else-at-line+in_ok-plain w ↦
           let read = w.in_ok-plain.ensures in
           subst (λ (o : OutsideView g.row.B.Denot g.row.T.Denot).
-          IsReady g.B.Bus.history (Reaches g.B.Bus.moved) g.T.Tagger.data_tag_of g.T.Tagger.node_tag_of write c.args.self.now c.requires.consistent c.requires.risen c.requires.holds_last
+          IsReady g.B.Bus.history g.B.Bus.moved g.T.Tagger.data_tag_of g.T.Tagger.node_tag_of write c.args.self.now c.requires.consistent c.requires.risen c.requires.holds_last
           c.args.at c.if-at-line.plain o) (sym w.self-is)
-          (ready_read g.B.Bus.history (Reaches g.B.Bus.moved) g.T.Tagger.data_tag_of g.T.Tagger.node_tag_of write c.args.self.now c.requires.consistent c.requires.risen c.requires.holds_last
+          (ready_read g.B.Bus.history g.B.Bus.moved g.T.Tagger.data_tag_of g.T.Tagger.node_tag_of write c.args.self.now c.requires.consistent c.requires.risen c.requires.holds_last
           c.args.at c.if-at-line.plain w.in_ok-plain.plain w.read.new.self
-          (read_sealed g.B.Bus.history (Reaches g.B.Bus.moved) g.T.Tagger.data_tag_of g.T.Tagger.node_tag_of write c.args.self.now c.requires.consistent c.requires.risen c.requires.holds_last
+          (read_sealed g.B.Bus.history g.B.Bus.moved g.T.Tagger.data_tag_of g.T.Tagger.node_tag_of write c.args.self.now c.requires.consistent c.requires.risen c.requires.holds_last
           c.args.at w.read.new.self (Ok w.in_ok-plain.plain) w.if-at-line.false c.requires.of_page
-          read.moved read.moves read.unmade read.room read.pads read.unwritten read.nodes read.counted read.accounted read.shows read.tampered read.unspent)
+          read.accesses read.moves read.unmade read.room read.pads read.unwritten read.nodes read.counted read.accounted read.shows read.tampered read.unspent)
           read.unmade read.pads read.once w.if-at-line.false w.plain-is read.value (λ quiet. read.rose (was_none c.args.self.now.engine.evidence w.read.new.self.engine.evidence read.moves.evidence quiet) (λ is. cc)))
     ] in
-    line_sealed g.B.Bus.history (Reaches g.B.Bus.moved) g.T.Tagger.data_tag_of g.T.Tagger.node_tag_of write c.args.self.now c.requires.consistent c.requires.risen c.requires.holds_last
+    line_sealed g.B.Bus.history g.B.Bus.moved g.T.Tagger.data_tag_of g.T.Tagger.node_tag_of write c.args.self.now c.requires.consistent c.requires.risen c.requires.holds_last
     c.args.at c.if-at-line.plain c.if-at-line.self c.seal.new.self c.args.old ready c.requires.inside c.requires.counter
-    c.seal.ensures.used c.seal.ensures.made c.seal.ensures.undone c.seal.ensures.moves c.seal.ensures.moved c.seal.ensures.honest (reaches_on g.B.Bus.moved g.met.B.Bus.moved_on)
-    c.in_ok-seal.ensures.ok
+    c.seal.ensures.used c.seal.ensures.made c.seal.ensures.undone c.seal.ensures.moves c.seal.ensures.honest g.met.B.Bus.moved_on
+    c.in_ok-seal.ensures.accesses c.in_ok-seal.ensures.ok
 
 pub returns-clause-once : goal.returns-clause-once
 returns-clause-once g c =

@@ -1,36 +1,23 @@
-use Rattle.std.proofs.Common.{◌≡◌, ◌<◌, Option, Some, None, Err, ap, sym, ◌∙◌, subst}
+use Rattle.std.proofs.Common.{◌≡◌, ◌<◌, Option, None, Err, ap, sym, ◌∙◌, subst}
 use Rattle.std.specs.Option.{option_or}
 use Rattle.std.specs.Result.{result_err}
-use Rattle.sec_base.specs.Geometry.{line_count, page_of}
+use Rattle.sec_base.specs.Geometry.{line_count}
 use Rattle.sec_base.specs.declared.stop.MemStop.{MemStop}
 use Rattle.sec_base.proofs.Results.{was_none}
-use Rattle.bus_model.specs.Access.{Reaches, reaches_none}
 use Rattle.tag_engine.specs.TagEngine.{tags_of}
 use Rattle.page_reencrypt.specs.LineMoves.{ReadMoved}
 use Rattle.page_reencrypt.specs.SealedLines.{SealedLinesView}
 use Rattle.page_reencrypt.specs.SealedLinesInside.{sealed_lines_view}
 use Rattle.page_reencrypt.specs.Stops.{lasting_stop}
-use Rattle.page_reencrypt.proofs.ReadCalls.{lasting_read, read_contents, read_kept, read_moved, read_unsealed, read_value, unsealed_not}
-use Rattle.page_reencrypt.proofs.Reaching.{came_not, few_not}
+use Rattle.page_reencrypt.proofs.ReadCalls.{lasting_read, read_contents, read_kept, read_moved, read_value}
 use Rattle.page_reencrypt.proofs.sealed_lines.SealedLinesLineStore.read_line.Goals as goal
 
 pub returns-in-Some-clause-moved : goal.returns-in-Some-clause-moved
 returns-in-Some-clause-moved g c =
     let tags = tags_of g.T.Tagger.data_tag_of g.T.Tagger.node_tag_of in
-    subst (λ (seen : SealedLinesView g.row.B.Denot g.row.T.Denot). ReadMoved g.B.Bus.history (Reaches g.B.Bus.moved) tags seen c.args.line (Err c.in-Some.stop) seen) c.self.view_is
-    (lasting_read g.B.Bus.history (Reaches g.B.Bus.moved) tags (reaches_none g.B.Bus.moved g.met.B.Bus.unmoved)
+    subst (λ (seen : SealedLinesView g.row.B.Denot g.row.T.Denot). ReadMoved g.B.Bus.history g.B.Bus.moved tags seen c.args.line (Err c.in-Some.stop) seen) c.self.view_is
+    (lasting_read g.B.Bus.history g.B.Bus.moved tags g.met.B.Bus.unmoved
     (sealed_lines_view c.self.inside) c.args.line c.in-Some.stop (sym c.lasting.ensures ∙ c.in-Some.is))
-
-pub returns-in-Some-clause-unsealed : goal.returns-in-Some-clause-unsealed
-returns-in-Some-clause-unsealed g c = unsealed_not g.B.Bus.history c.args.self.now
-
-pub returns-in-Some-clause-few_copies : goal.returns-in-Some-clause-few_copies
-returns-in-Some-clause-few_copies g c = few_not c.args.self.now.counters
-
-pub returns-in-Some-clause-copies : goal.returns-in-Some-clause-copies
-returns-in-Some-clause-copies g c = λ quiet.
-    let lines = c.args.self.now in
-    came_not (page_of c.args.line) (g.B.Bus.history lines.bus) lines.engine.made lines.counters (Some c.in-Some.stop)
 
 pub invariant_of-self : goal.invariant_of-self
 invariant_of-self g c =
@@ -43,7 +30,7 @@ invariant_of-self g c =
     c.or-self-inside.ensures ∙ ap (λ (o : Option MemStop). option_or o lines.stopped) c.err.ensures.value in
     let r = c.read_at-read.ensures.read in (
       c.self.invariant.0 ∙ sym r.step.geometry,
-      read_kept g.T.Tagger.data_tag_of g.T.Tagger.node_tag_of g.B.Bus.history (Reaches g.B.Bus.moved) lines c.args.line c.self.invariant.1 going inside new counters
+      read_kept g.T.Tagger.data_tag_of g.T.Tagger.node_tag_of g.B.Bus.history g.B.Bus.moved lines c.args.line c.self.invariant.1 going inside new counters
           c.read_at-read.result c.read_at-read.ensures.read c.or-self-inside.result stops c.read_at-read.ensures.pages,
     )
 
@@ -68,7 +55,7 @@ returns-clause-contents g c =
     let going : lasting_stop lines.stopped ≡ None = sym c.lasting.ensures ∙ c.in_default.is in
     let stops : c.or-self-inside.result ≡ option_or (result_err c.read_at-read.result) lines.stopped =
     c.or-self-inside.ensures ∙ ap (λ (o : Option MemStop). option_or o lines.stopped) c.err.ensures.value in
-    rw (← c.self.view_is) (read_contents g.T.Tagger.data_tag_of g.T.Tagger.node_tag_of g.B.Bus.history (Reaches g.B.Bus.moved) lines c.args.line c.self.invariant.1 going inside new counters
+    rw (← c.self.view_is) (read_contents g.T.Tagger.data_tag_of g.T.Tagger.node_tag_of g.B.Bus.history g.B.Bus.moved lines c.args.line c.self.invariant.1 going inside new counters
     c.read_at-read.result c.read_at-read.ensures.read c.or-self-inside.result stops)
 
 pub returns-clause-moved : goal.returns-clause-moved
@@ -80,59 +67,10 @@ returns-clause-moved g c =
     let going : lasting_stop lines.stopped ≡ None = sym c.lasting.ensures ∙ c.in_default.is in
     let stops : c.or-self-inside.result ≡ option_or (result_err c.read_at-read.result) lines.stopped =
     c.or-self-inside.ensures ∙ ap (λ (o : Option MemStop). option_or o lines.stopped) c.err.ensures.value in
-    rw (← c.self.view_is) (read_moved g.T.Tagger.data_tag_of g.T.Tagger.node_tag_of g.B.Bus.history (Reaches g.B.Bus.moved) lines c.args.line c.self.invariant.1 going inside new counters
-    c.read_at-read.result c.read_at-read.ensures.read c.or-self-inside.result stops c.read_at-read.ensures.pages c.read_at-read.ensures.cached)
-
-pub returns-clause-unsealed : goal.returns-clause-unsealed
-returns-clause-unsealed g c =
-    let lines = sealed_lines_view c.self.inside in
-    let new = c.read_at-read.new.outside in
-    let counters = c.read_at-read.new.counters in
-    let inside : c.args.line < line_count lines.engine.geometry = rw (← c.self.view_is) at c.requires.inside in
-    let going : lasting_stop lines.stopped ≡ None = sym c.lasting.ensures ∙ c.in_default.is in
-    let stops : c.or-self-inside.result ≡ option_or (result_err c.read_at-read.result) lines.stopped =
-    c.or-self-inside.ensures ∙ ap (λ (o : Option MemStop). option_or o lines.stopped) c.err.ensures.value in
-    rw (← c.self.view_is) (read_unsealed g.T.Tagger.data_tag_of g.T.Tagger.node_tag_of g.B.Bus.history (Reaches g.B.Bus.moved) lines c.args.line c.self.invariant.1 going inside new counters
-    c.read_at-read.result c.read_at-read.ensures.read c.or-self-inside.result stops)
-
-pub returns-clause-same_counters : goal.returns-clause-same_counters
-returns-clause-same_counters g c = λ _ quiet page. rw (← c.self.view_is) (c.read_at-read.ensures.read.same quiet page)
-
-pub returns-clause-fits : goal.returns-clause-fits
-returns-clause-fits g c =
-    let lines = sealed_lines_view c.self.inside in
-    let new = c.read_at-read.new.outside in
-    let counters = c.read_at-read.new.counters in
-    let inside : c.args.line < line_count lines.engine.geometry = rw (← c.self.view_is) at c.requires.inside in
-    let going : lasting_stop lines.stopped ≡ None = sym c.lasting.ensures ∙ c.in_default.is in
-    let stops : c.or-self-inside.result ≡ option_or (result_err c.read_at-read.result) lines.stopped =
-    c.or-self-inside.ensures ∙ ap (λ (o : Option MemStop). option_or o lines.stopped) c.err.ensures.value in
-    (read_kept g.T.Tagger.data_tag_of g.T.Tagger.node_tag_of g.B.Bus.history (Reaches g.B.Bus.moved) lines c.args.line c.self.invariant.1 going inside new counters
-    c.read_at-read.result c.read_at-read.ensures.read c.or-self-inside.result stops c.read_at-read.ensures.pages).fits
-
-pub returns-clause-accepted : goal.returns-clause-accepted
-returns-clause-accepted g c = λ at counter sealed made_count _ quiet found.
-    rw (← c.self.view_is) (c.read_at-read.ensures.read.accepted at counter sealed made_count (rw (← c.self.view_is) at quiet) found)
-
-pub returns-clause-tampered : goal.returns-clause-tampered
-returns-clause-tampered g c = λ place _ is.
-    let tampered = c.read_at-read.ensures.read.tampered place is in
-    (rw (← c.self.view_is) tampered.0, λ quiet. rw (← c.self.view_is) (tampered.1 (rw (← c.self.view_is) at quiet)))
-
-pub returns-clause-shown : goal.returns-clause-shown
-returns-clause-shown g c = λ _ quiet. rw (← c.self.view_is) (c.read_at-read.ensures.read.shows (rw (← c.self.view_is) at quiet))
-
-pub returns-clause-checked : goal.returns-clause-checked
-returns-clause-checked g c = λ _. rw (← c.self.view_is) c.read_at-read.ensures.read.checked
-
-pub returns-clause-accepted_counters : goal.returns-clause-accepted_counters
-returns-clause-accepted_counters g c = λ made_at block tag _ quiet found.
-    rw (← c.self.view_is) (c.read_at-read.ensures.read.accepted_counters made_at block tag (rw (← c.self.view_is) at quiet) found)
+    rw (← c.self.view_is) (read_moved g.T.Tagger.data_tag_of g.T.Tagger.node_tag_of g.B.Bus.history g.B.Bus.moved lines c.args.line c.self.invariant.1 going inside new counters
+    c.read_at-read.result c.read_at-read.ensures.read c.or-self-inside.result stops c.read_at-read.ensures.pages c.read_at-read.ensures.cached c.read_at-read.ensures.under)
 
 pub returns-clause-lost : goal.returns-clause-lost
 returns-clause-lost g c = λ quiet.
     let was = sealed_lines_view c.self.inside in
     rw (← c.self.view_is) (was_none was.engine.evidence c.read_at-read.new.outside.engine.evidence c.read_at-read.ensures.read.step.evidence quiet)
-
-pub returns-clause-hit : goal.returns-clause-hit
-returns-clause-hit g c = λ cached. rw (← c.self.view_is) (c.read_at-read.ensures.read.hit (rw (← c.self.view_is) at cached))
