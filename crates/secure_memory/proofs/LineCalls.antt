@@ -1,5 +1,5 @@
 -- What a load and a store make of a memory.
-use Rattle.std.proofs.Common.{◌≡◌, ◌⊎◌, inl, inr, ℕ, zero, suc, ◌+◌, ◌/◌, ◌≤◌, List, [], ◌∷◌, ◌++◌, length, map, take, Option, Some, None, Result, Ok, Err, IfOk, IsOk, IsSome, Contains, refl, ap, sym, ◌∙◌, subst, arith, ◌≢◌}
+use Rattle.std.proofs.Common.{◌≡◌, ◌⊎◌, inl, inr, ℕ, zero, suc, ◌+◌, ◌/◌, ◌≤◌, List, [], ◌∷◌, ◌++◌, length, map, take, Option, Some, None, Result, Ok, Err, IsOk, IsSome, Contains, refl, ap, sym, ◌∙◌, subst, arith, ◌≢◌}
 use Rattle.std.specs.Option.{option_or}
 use Rattle.std.specs.Result.{result_err}
 use Rattle.std.proofs.Math.Nat.{div-one, pow-zero}
@@ -7,25 +7,20 @@ use Rattle.std.proofs.lemmas.Bool.{true≢false}
 use Rattle.std.proofs.lemmas.List.{append-nil, take_all}
 use Rattle.std.proofs.lemmas.Option.{same_Some}
 use Rattle.sec_base.specs.Count.{Rose, RoseBy}
-use Rattle.sec_base.specs.Geometry.{GeometryView, arity, line_count, page_of}
+use Rattle.sec_base.specs.Geometry.{GeometryView, arity, page_of}
 use Rattle.sec_base.specs.LastMessage.{data_pairs, last_data}
-use Rattle.sec_base.specs.Width.{number_at}
 use Rattle.sec_base.specs.declared.counter.Counter.{Counter}
-use Rattle.sec_base.specs.declared.evidence.Evidence.{Evidence}
-use Rattle.sec_base.specs.declared.evidence.Evidence.TheVariants.{Forgery}
 use Rattle.sec_base.specs.declared.message.Message.{Message}
 use Rattle.sec_base.specs.declared.place.Place.{Place}
 use Rattle.sec_base.specs.declared.place.Place.TheVariants.{Line as line_place, Node as node_place}
-use Rattle.sec_base.specs.declared.sealed.Sealed.{Sealed}
 use Rattle.sec_base.specs.declared.stop.MemStop.{MemStop}
-use Rattle.sec_base.specs.declared.stop.MemStop.TheVariants.{Tampered, Spent, NoMemory}
-use Rattle.sec_base.specs.declared.width.Width.{Width}
+use Rattle.sec_base.specs.declared.stop.MemStop.TheVariants.{Tampered, Spent}
 use Rattle.sec_base.proofs.LastMessages.{none_front}
 use Rattle.sec_base.specs.LastMessage.{data_part}
 use Rattle.sec_base.proofs.Results.{stop_is, was_none}
+use Rattle.bus_model.specs.Access.{Access}
 use Rattle.bus_model.specs.BusHistory.{BusHistory}
 use Rattle.tag_engine.specs.TagEngine.{TagEngineView}
-use Rattle.pad_stream.specs.Pad.{cipher_of}
 use Rattle.pad_stream.specs.PadEngine.{PadEngineView}
 use Rattle.bonsai_tree.specs.Node.{path_index}
 use Rattle.bonsai_tree.specs.Tree.{IsFetchPlace, PathWasRead, TreeView, UnmadeAreUnread}
@@ -33,25 +28,23 @@ use Rattle.bonsai_tree.proofs.Climbs.{came_before, unmade_before}
 use Rattle.page_reencrypt.specs.Contents.{lines_encrypted}
 use Rattle.page_reencrypt.specs.LineMoves.{FitsUnlessStopped, ReadMoved, WriteMoved, overflow_accesses, read_accesses, terms_in, write_accesses}
 use Rattle.page_reencrypt.specs.Outside.{IsLineRead, IsWrite, outside_of}
-use Rattle.page_reencrypt.specs.SealedLines.{CopiesCame, IsLineOf, IsUnsealed, KeepsFew, Moves, SameCounters, SealedLinesView, made, page_counters, used}
-use Rattle.page_reencrypt.specs.SealedLines.{contents as line_contents, geometry as geometry_of}
+use Rattle.page_reencrypt.specs.SealedLines.{CopiesCame, IsLineOf, IsUnsealed, KeepsFew, Moves, SealedLinesView, made, page_counters, used}
 use Rattle.page_reencrypt.specs.SealedLines as lines
 use Rattle.counter_cache.specs.Counters.{cached_pages as lines_cached}
 use Rattle.page_reencrypt.specs.Stops.{lasting_stop}
 use Rattle.counter_cache.proofs.Havings.{no_copy_below, path_on}
 use Rattle.page_reencrypt.proofs.Moves.{moves_not, own_moves_after, own_moves_on}
-use Rattle.page_reencrypt.proofs.ReadCalls.{contents_same}
 use Rattle.page_reencrypt.proofs.Nodes.{not_node}
 use Rattle.page_reencrypt.proofs.Sealing.{listed_or_not}
 use Rattle.cache_set.specs.declared.way.Way.{Way}
 use Rattle.cache_set.specs.Cache.{copy_at, places, way_at}
 use Rattle.cache_set.proofs.Listed.{listed_at}
 use Rattle.cache_set.specs.Bringing.{leaving}
-use Rattle.line_cache.specs.LineCache.{IsMiss, IsMissed, IsStep, IsStoppedMiss, LineCacheView, contents_over, most_held}
+use Rattle.line_cache.specs.LineCache.{IsMiss, IsMissed, IsStep, LineCacheView, most_held}
 use Rattle.line_cache.specs.LineCache.{IsMoved as IsChain}
 use Rattle.line_cache.proofs.Steps.{way_of_copy}
-use Rattle.secure_memory.specs.LineCall.{IsLineCall, IsWrittenAnew, IsWrittenInPart, leaving_accesses}
-use Rattle.secure_memory.specs.SecureRam.{SecureRamView, CopiesHad, IsMoved, IsQuiet, LineHad, PageHad, PageRead, cached_pages, held_lines, geometry, memory_accesses, stopped}
+use Rattle.secure_memory.specs.LineCall.{IsLineCall, IsWrittenAnew, IsWrittenInPart}
+use Rattle.secure_memory.specs.SecureRam.{SecureRamView, CopiesHad, IsMoved, IsQuiet, LineHad, PageHad, PageRead, cached_pages, held_lines, geometry, stopped}
 use Rattle.secure_memory.specs.Moving.{copies_not, copies_on, on_chip_of_line, on_chip_of_page}
 
 -- Answers and stops
@@ -79,7 +72,7 @@ module _ {B T : Type 0} (history : B → BusHistory) where
   unsealed_not lines = record { unused = refl; more = []; messages = sym (append-nil (made lines)); untagged = refl; unwritten_to = λ line. refl }
 
   -- what was had before further reads, was had
-  module _ (first second third : SealedLinesView B T) (bus_moved : B → B → Type 0) (tags : TagEngineView T → Message → List ℕ)
+  module _ (first second third : SealedLinesView B T) (bus_moved : B → List Access → B → Type 0) (tags : TagEngineView T → Message → List ℕ)
       (moves : Moves history bus_moved tags (IsLineOf first) first second) where
     untagged_before : (line : ℕ) → last_data line (made second) ≡ None → last_data line (made first) ≡ None
     untagged_before line none =
@@ -103,7 +96,7 @@ own_was_read history old new page path =
     subst (PageRead history old new) (page_on_path old.lines.counters.tree.geometry page)
     (path.rose 0 (omega arith) (omega arith) (λ lower from within. no_copy_below old.lines.counters.tree lower page within))
 
-module _ {B T : Type 0} (history : B → BusHistory) (bus_moved : B → B → Type 0) (tags : TagEngineView T → Message → List ℕ) where
+module _ {B T : Type 0} (history : B → BusHistory) (bus_moved : B → List Access → B → Type 0) (tags : TagEngineView T → Message → List ℕ) where
   -- A write of the line that goes out
 
   module _ (old mid : SealedLinesView B T) (way : Way) (answer : Result (Unit {0}) MemStop)
@@ -329,13 +322,14 @@ module _ {B T : Type 0} (history : B → BusHistory) (bus_moved : B → B → Ty
 
     -- How the memory moves
 
-    pub missed_moves : ((first second third : B) → bus_moved first second → bus_moved second third → bus_moved first third) →
+    pub missed_moves : ((engine engine' : TagEngineView T) → engine'.geometry ≡ engine.geometry → engine'.tagger ≡ engine.tagger → tags engine' ≡ tags engine) →
+        ((first second third : B) (before after : List Access) → bus_moved first before second → bus_moved second after third → bus_moved first (before ++ after) third) →
         (out : Option Way) (answer : Result (List ℕ) MemStop) →
         IsMiss (ReadMoved history bus_moved tags) (WriteMoved history bus_moved tags) out old.lines line answer new.lines →
         Moves history bus_moved tags (IsLineOf old.lines) old.lines new.lines
-    missed_moves moved_on None answer r = r.moves
-    missed_moves moved_on (Some way) answer (inl (stop, is, w)) = w.moves
-    missed_moves moved_on (Some way) answer (inr (mid, w, r)) = own_moves_on history bus_moved tags moved_on old.lines mid new.lines w.moves r.moves
+    missed_moves tags_stay moved_on None answer r = r.moves
+    missed_moves tags_stay moved_on (Some way) answer (inl (stop, is, w)) = w.moves
+    missed_moves tags_stay moved_on (Some way) answer (inr (mid, w, r)) = own_moves_on history bus_moved tags tags_stay moved_on old.lines mid new.lines w.moves r.moves
 
     -- the last stop is the call's
     stop_kept : (answer : Result (List ℕ) MemStop) (before : Option MemStop) → before ≡ None → option_or (result_err answer) before ≡ result_err answer
@@ -446,7 +440,7 @@ module _ {B T : Type 0} (history : B → BusHistory) (bus_moved : B → B → Ty
       }
 
   -- a memory that answers its stop again
-  pub stopped_unmoved : ((bus : B) → bus_moved bus bus) → (memory : SecureRamView B T) (listed : List ℕ) (stop : MemStop) →
+  pub stopped_unmoved : ((bus : B) → bus_moved bus [] bus) → (memory : SecureRamView B T) (listed : List ℕ) (stop : MemStop) →
       stopped memory ≡ Some stop → IsMoved history bus_moved tags memory listed memory
   stopped_unmoved bus_unmoved memory listed stop is = record {
     moves = moves_not history bus_moved tags (IsLineOf memory.lines) bus_unmoved memory.lines;
@@ -458,17 +452,12 @@ module _ {B T : Type 0} (history : B → BusHistory) (bus_moved : B → B → Ty
     had = λ going quiet. absurd (cc);
   }
 
--- what goes out takes no more accesses than an overflow
-leaves_few : (geometry : GeometryView) (out : Option Way) → leaving_accesses geometry.levels out ≤ overflow_accesses geometry.levels
-leaves_few geometry None = omega arith
-leaves_few geometry (Some way) = omega arith
-
 -- What is seen of a cache of the lines outside
 abbrev pub memory_of : {B T : Type 0} → LineCacheView (SealedLinesView B T) → SecureRamView B T
 memory_of cache = record { lines = cache.store; ways = cache.lines }
 
 -- A call of the cache by a line
-module _ {B T : Type 0} (history : B → BusHistory) (bus_moved : B → B → Type 0) (tags : TagEngineView T → Message → List ℕ)
+module _ {B T : Type 0} (history : B → BusHistory) (bus_moved : B → List Access → B → Type 0) (tags : TagEngineView T → Message → List ℕ)
     (cache cache' : LineCacheView (SealedLinesView B T)) (line : ℕ) (stop : Option MemStop) (copied : List ℕ → List ℕ)
     (going : cache.store.stopped ≡ None)
     (chain : IsChain (ReadMoved history bus_moved tags) (WriteMoved history bus_moved tags) cache (line ∷ []) cache')
@@ -510,15 +499,17 @@ module _ {B T : Type 0} (history : B → BusHistory) (bus_moved : B → B → Ty
     | inr out ↦ let m = missed out in missed_fits history bus_moved tags old new line going step.held (leaving cache.lines line) m.answer m.miss
   ]
 
-  pub moved_so : ((bus : B) → bus_moved bus bus) → ((first second third : B) → bus_moved first second → bus_moved second third → bus_moved first third) →
+  pub moved_so : ((bus : B) → bus_moved bus [] bus) →
+      ((engine engine' : TagEngineView T) → engine'.geometry ≡ engine.geometry → engine'.tagger ≡ engine.tagger → tags engine' ≡ tags engine) →
+      ((first second third : B) (before after : List Access) → bus_moved first before second → bus_moved second after third → bus_moved first (before ++ after) third) →
       IsMoved history bus_moved tags old (line ∷ []) new
-  moved_so unmoved moved_on =
+  moved_so unmoved tags_stay moved_on =
       call_moved history bus_moved tags old new line going step.held (leaving cache.lines line) stop called stops_so
       (elim (listed_or_not (places cache.lines) line) [
         | inl there ↦
             subst (λ (l : SealedLinesView B T). Moves history bus_moved tags (IsLineOf cache.store) cache.store l) (sym (step.hit there).0)
             (moves_not history bus_moved tags (IsLineOf cache.store) unmoved cache.store)
-        | inr out ↦ let m = missed out in missed_moves history bus_moved tags old new line going step.held moved_on (leaving cache.lines line) m.answer m.miss
+        | inr out ↦ let m = missed out in missed_moves history bus_moved tags old new line going step.held tags_stay moved_on (leaving cache.lines line) m.answer m.miss
       ])
       (elim (listed_or_not (places cache.lines) line) [
         | inl there ↦ subst (λ (l : SealedLinesView B T). CopiesHad history old (record { lines = l; ways = cache'.lines })) (sym (step.hit there).0) (copies_not history old cache'.lines)
@@ -533,35 +524,6 @@ module _ {B T : Type 0} (history : B → BusHistory) (bus_moved : B → B → Ty
   pub few_so : length (held_lines new) ≤ most_held
   few_so = step.few
 
-  pub once_so : (history new.lines.bus).accesses ≤ (history old.lines.bus).accesses + memory_accesses (geometry old).levels
-  once_so = let out = leaves_few (geometry old) (leaving cache.lines line) in omega (arith, out, called.few)
-
--- What passed its check where nothing goes out
-module _ {B T : Type 0} (history : B → BusHistory) (bus_moved : B → B → Type 0) (tags : TagEngineView T → Message → List ℕ)
-    (cache : LineCacheView (SealedLinesView B T)) (store' : SealedLinesView B T) (lines' : List (List Way)) (line : ℕ) (stop : Option MemStop) (copied : List ℕ → List ℕ)
-    (going : cache.store.stopped ≡ None) (stays : leaving cache.lines line ≡ None)
-    (missed : IsMissed (ReadMoved history bus_moved tags) (WriteMoved history bus_moved tags) cache.lines cache.store line copied stop lines' store') where
-  pub alone_read : IsLineRead (terms_in history bus_moved tags cache.store) line (outside_of cache.store) cache.store.counters (outside_of store') store'.counters missed.answer
-  alone_read =
-      (subst (λ (out : Option Way). IsMiss (ReadMoved history bus_moved tags) (WriteMoved history bus_moved tags) out cache.store line missed.answer store') stays missed.miss).outside
-      (ap lasting_stop going)
-
-  -- what passed a check is kept as it was decrypted, and no message was made since
-  pub accepted_copy : (at : ℕ) (counter : Counter) (sealed : Sealed) (made_count : ℕ) → cache.store.engine.evidence ≡ None →
-      store'.engine.evidence ≡ Some (Forgery at counter sealed made_count) →
-      (at ≡ line) × (made_count ≡ length store'.engine.made)
-      × (copy_at lines' line ≡ Some (copied (cipher_of cache.store.pads.key at counter sealed.cipher)))
-  accepted_copy at counter sealed made_count quiet found =
-      let accepted = alone_read.accepted at counter sealed made_count quiet found in
-      let there : copy_at lines' line ≡ Some (copied (cipher_of cache.store.pads.key line counter sealed.cipher)) =
-      subst (λ (answer : Result (List ℕ) MemStop). IfOk answer (λ bytes. copy_at lines' line ≡ Some (copied bytes))) accepted.2 missed.copy in
-      (accepted.0, accepted.1, there ∙ ap (λ (l : ℕ). Some (copied (cipher_of cache.store.pads.key l counter sealed.cipher))) (sym accepted.0))
-
--- evidence comes of no line that is held
-pub found_outside : {B T : Type 0} (store store' : SealedLinesView B T) (found : Evidence) → store' ≡ store → store.engine.evidence ≡ None → store'.engine.evidence ≡ Some found → ⊥
-found_outside {B} {T} store store' found same quiet is =
-    let still : store'.engine.evidence ≡ None = ap (λ (l : SealedLinesView B T). l.engine.evidence) same ∙ quiet in cc
-
 pub ok_goes : {A : Type 0} (answer : Result A MemStop) → IsOk answer → result_err answer ≡ None
 ok_goes (Ok value) ok = refl
 ok_goes (Err stop) ok = absurd (true≢false (sym ok))
@@ -571,39 +533,3 @@ pub copy_held : (ways : List (List Way)) (line : ℕ) (copy : List ℕ) → copy
 copy_held ways line copy is =
     let found = way_of_copy (way_at ways line) copy is in
     listed_at ways line (subst IsSome (sym found.1) refl)
-
--- the number that a load answers stands in what the store answered
-pub stands_in : (line offset : ℕ) (width : Width) (lines' : List (List Way)) (answer : Result (List ℕ) MemStop) (result : Result ℕ MemStop) (P : List ℕ → Type 0) →
-    result_err answer ≡ result_err result → IfOk answer (λ bytes. copy_at lines' line ≡ Some bytes) →
-    IfOk result (λ n. (copy : List ℕ) → copy_at lines' line ≡ Some copy → n ≡ number_at copy offset width) →
-    IfOk answer P → IfOk result (λ n. (bytes : List ℕ) × P bytes × (n ≡ number_at bytes offset width))
-stands_in line offset width lines' (Ok bytes) (Ok n) P stops there number p = (bytes, p, number bytes there)
-stands_in line offset width lines' (Ok bytes) (Err stop) P stops there number p = tt
-stands_in line offset width lines' (Err stop) (Ok n) P stops there number p = absurd (cc)
-stands_in line offset width lines' (Err stop) (Err why) P stops there number p = tt
-
--- A page that is spent
-
-module _ {B T : Type 0} (history : B → BusHistory) (bus_moved : B → B → Type 0) (tags : TagEngineView T → Message → List ℕ)
-    (old new : SealedLinesView B T) (lines lines' : List (List Way)) (line : ℕ) (stop : MemStop) (page : ℕ) (going : old.stopped ≡ None) (is : stop ≡ Spent page) where
-  -- the write of the line that goes out stops so, and then that one stays
-  spent_write : (way : Way) → WriteMoved history bus_moved tags old way.place way.copy (Err stop) new → lines' ≡ lines →
-      contents_over (line_contents new) (line_count (geometry_of new)) lines' ≡ contents_over (line_contents old) (line_count (geometry_of old)) lines
-  spent_write way w same =
-      let wrote = w.outside (ap lasting_stop going) in
-      let none = none_written history bus_moved tags old new way (Err stop) wrote (wrote.spent page (ap Some is)).1 in
-      ap (λ (ways : List (List Way)). contents_over (line_contents new) (line_count (geometry_of new)) ways) same
-      ∙ ap (λ (count : GeometryView). contents_over (line_contents new) (line_count count) lines) w.moves.step.geometry
-      ∙ ap (λ (stored : List ℕ). contents_over stored (line_count (geometry_of old)) lines)
-      (contents_same old.pads.key new.pads.key (geometry_of old) (geometry_of new) (made old) none.more (made new) w.moves.key w.moves.step.geometry none.messages none.untagged)
-
-  -- a read does not
-  spent_read : (mid : SealedLinesView B T) → mid.stopped ≡ None → ReadMoved history bus_moved tags mid line (Err stop) new → ⊥
-  spent_read mid mid_going r = (r.outside (ap lasting_stop mid_going)).unspent page (ap (λ (s : MemStop). Err s) is)
-
-  pub spent_contents : (out : Option Way) →
-      IsStoppedMiss (ReadMoved history bus_moved tags) (WriteMoved history bus_moved tags) out lines old line stop lines' new →
-      contents_over (line_contents new) (line_count (geometry_of new)) lines' ≡ contents_over (line_contents old) (line_count (geometry_of old)) lines
-  spent_contents None (r, same) = absurd (spent_read old going r)
-  spent_contents (Some way) (inl (w, same)) = spent_write way w same
-  spent_contents (Some way) (inr (mid, w, r, same)) = absurd (spent_read mid (w.stopped ∙ going) r)

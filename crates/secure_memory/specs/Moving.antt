@@ -11,6 +11,7 @@ use Rattle.sec_base.specs.declared.stop.MemStop.TheVariants.{NoMemory}
 use Rattle.sec_base.proofs.LastMessages.{none_front}
 use Rattle.sec_base.proofs.Results.{was_none}
 use Rattle.sec_base.proofs.Lists.{none_contained}
+use Rattle.bus_model.specs.Access.{Access}
 use Rattle.bus_model.specs.BusHistory.{BusHistory}
 use Rattle.tag_engine.specs.TagEngine.{TagEngineView}
 use Rattle.cache_set.specs.declared.way.Way.{Way}
@@ -52,7 +53,7 @@ copies_not history memory ways = record {
   blocks_came = λ quiet goes page cached. inl (cached, refl);
 }
 
-module _ {B T : Type 0} (history : B → BusHistory) (bus_moved : B → B → Type 0) (tags : TagEngineView T → Message → List ℕ) where
+module _ {B T : Type 0} (history : B → BusHistory) (bus_moved : B → List Access → B → Type 0) (tags : TagEngineView T → Message → List ℕ) where
   module _ (allowed : ℕ → Type 0) (first second third : SecureRamView B T) where
     -- What was had before further calls is had after them
     pub line_sooner : (line : ℕ) → Moves history bus_moved tags allowed second.lines third.lines →
@@ -151,14 +152,15 @@ module _ {B T : Type 0} (history : B → BusHistory) (bus_moved : B → B → Ty
     }
 
   -- What calls make after others, they make together
-  pub moved_on : ((first second third : B) → bus_moved first second → bus_moved second third → bus_moved first third) →
+  pub moved_on : ((engine engine' : TagEngineView T) → engine'.geometry ≡ engine.geometry → engine'.tagger ≡ engine.tagger → tags engine' ≡ tags engine) →
+      ((first second third : B) (before after : List Access) → bus_moved first before second → bus_moved second after third → bus_moved first (before ++ after) third) →
       (first second third : SecureRamView B T) (before after : List ℕ) →
       IsMoved history bus_moved tags first before second → IsMoved history bus_moved tags second after third →
       IsMoved history bus_moved tags first (before ++ after) third
-  moved_on bus_moved_on first second third before after a b =
+  moved_on tags_stay bus_moved_on first second third before after a b =
       let more = own_moves_after history bus_moved tags first.lines second.lines third.lines a.moves b.moves in
       record {
-        moves = own_moves_on history bus_moved tags bus_moved_on first.lines second.lines third.lines a.moves b.moves;
+        moves = own_moves_on history bus_moved tags tags_stay bus_moved_on first.lines second.lines third.lines a.moves b.moves;
         stays = λ stop is. b.stays stop (a.stays stop is);
         few = λ few. b.few (a.few few);
         copies = copies_on (IsLineOf first.lines) first second third a.moves more b.stays a.copies b.copies;
@@ -174,7 +176,7 @@ module _ {B T : Type 0} (history : B → BusHistory) (bus_moved : B → B → Ty
       }
 
   -- No call makes nothing of a memory
-  pub unmoved : ((bus : B) → bus_moved bus bus) → (memory : SecureRamView B T) → IsMoved history bus_moved tags memory [] memory
+  pub unmoved : ((bus : B) → bus_moved bus [] bus) → (memory : SecureRamView B T) → IsMoved history bus_moved tags memory [] memory
   unmoved bus_unmoved memory = record {
     moves = moves_not history bus_moved tags (IsLineOf memory.lines) bus_unmoved memory.lines;
     stays = λ stop is. is;

@@ -2,25 +2,18 @@
 ghost use Rattle.std.specs.Prelude.{◌≡◌, ◌+◌, ◌*◌, ◌%◌, ◌^◌, ◌<◌, ◌≤◌, ◌↔◌, ◌⊎◌, ◌∷◌, [], ℕ, List, None, Some, Err, IfOk, IfErr, IfSome, IsTrue, OnOk, OnErr, Contains, length};
 ghost use Rattle.std.specs.Result.{result_err};
 ghost use Rattle.sec_base.specs.Evidence.{IsEvidence};
-ghost use Rattle.sec_base.specs.Geometry.{line_of, page_of};
+ghost use Rattle.sec_base.specs.Geometry.{line_of};
 ghost use Rattle.sec_base.specs.Width.{width_bytes, number_at, with_number};
-ghost use Rattle.sec_base.specs.declared.counter.Counter.{Counter};
-ghost use Rattle.sec_base.specs.declared.evidence.Evidence.TheVariants.{Collision, Forgery};
-ghost use Rattle.sec_base.specs.declared.sealed.Sealed.{Sealed};
 ghost use Rattle.sec_base.specs.declared.stop.MemStop.{MemStop};
-ghost use Rattle.sec_base.specs.declared.stop.MemStop.TheVariants.{Spent};
-ghost use Rattle.bus_model.specs.Access.{Reaches, reaches_none, reaches_on};
 ghost use Rattle.bus_model.specs.BusHistory.{NothingWritten};
 ghost use Rattle.tag_engine.specs.TagEngine.{tags_of};
-ghost use Rattle.pad_stream.specs.Pad.{cipher_of};
 ghost use Rattle.pad_stream.specs.PadBlocks.{ShareNoBlock};
-ghost use Rattle.split_counter.specs.CounterBlock.{block_of, counter_of, place_of};
 ghost use Rattle.page_reencrypt.specs.LineMoves.{ReadMoved, WriteMoved};
 ghost use Rattle.page_reencrypt.specs.SealedLines.{AreNew, AreProtected, LinesFit, enc_key, tag_in};
 ghost use Rattle.cache_set.specs.Cache.{AreApart, copy_at, new_cache};
 ghost use Rattle.cache_set.specs.Bringing.{brought, leaving, with_changed};
 ghost use Rattle.line_cache.specs.LineCache.{IsMissed, IsStoppedMiss, line_sets, most_held};
-ghost use Rattle.secure_memory.specs.SecureRam.{IsMoved, IsNumberByCounters, IsNumberUnder, IsQuiet, cached_nodes, cached_pages, contents, evidence, held_lines, geometry, lines_of, made, memory_accesses, stopped, used};
+ghost use Rattle.secure_memory.specs.SecureRam.{IsMoved, IsQuiet, cached_nodes, cached_pages, contents, evidence, held_lines, geometry, lines_of, made, stopped, used};
 ghost use Rattle.secure_memory.specs.LineCall.{IsLineCall};
 
 use bus_model::Bus;
@@ -142,6 +135,7 @@ impl<B: Bus, T: Tagger> SecureRam<B, T> {
 impl<B: Bus, T: Tagger> Ram for SecureRam<B, T> {
     ghost use Rattle.line_cache.specs.Moving.{length-contents_over};
     ghost use Rattle.page_reencrypt.specs.SealedLines.{contents as line_contents};
+    ghost use Rattle.checked_bus.proofs.Makes.{same_tags};
     ghost use Rattle.secure_memory.specs.Moving.{unmoved, moved_on};
 
     ghost contents = { λ memory. contents memory };
@@ -153,7 +147,7 @@ impl<B: Bus, T: Tagger> Ram for SecureRam<B, T> {
     ghost stopped = { λ memory. stopped memory };
 
     ghost moved = { λ before lines after.
-        IsMoved B.history (Reaches B.moved) (tags_of T.data_tag_of T.node_tag_of) before lines after };
+        IsMoved B.history B.moved (tags_of T.data_tag_of T.node_tag_of) before lines after };
 
     fn size(&self) -> u32 {
         self.size
@@ -173,23 +167,20 @@ impl<B: Bus, T: Tagger> Ram for SecureRam<B, T> {
 
         ensures extent { 64 * lines_of self.new ≡ 64 * lines_of self.old }
         ensures lost { IsQuiet self.new → IsQuiet self.old }
-        ensures moved { IsMoved B.history (Reaches B.moved) (tags_of T.data_tag_of T.node_tag_of) self.old (line_of addr ∷ []) self.new }
+        ensures moved { IsMoved B.history B.moved (tags_of T.data_tag_of T.node_tag_of) self.old (line_of addr ∷ []) self.new }
 
         // The first stop is answered again, and nothing is done.
         ensures latched { (stop : MemStop) → stopped self.old ≡ Some stop → (result ≡ Err stop) × (self.new ≡ self.old) }
-
-        // So many accesses at most, also where it stops. An instruction fetch is a load.
-        ensures once { (B.history self.new.lines.bus).accesses
-            ≤ (B.history self.old.lines.bus).accesses + memory_accesses (geometry self.old).levels }
 
         // What it costs, reads and encrypts, and when it stops.
         ensures call { stopped self.old ≡ None → IsLineCall B.history self.old (line_of addr)
             (leaving self.old.ways (line_of addr)) (result_err result) self.new }
 
-        // A line that is not held is read, once the changed line that goes out for it was written.
+        // A line that is not held is read, once the changed line that goes out for it was written. With evidence too, it goes by
+        // the counters that were had, and what passed though it was never tagged is used as it was answered.
         ensures missed { stopped self.old ≡ None → ¬ Contains (held_lines self.old) (line_of addr) →
-            IsMissed (ReadMoved B.history (Reaches B.moved) (tags_of T.data_tag_of T.node_tag_of))
-            (WriteMoved B.history (Reaches B.moved) (tags_of T.data_tag_of T.node_tag_of))
+            IsMissed (ReadMoved B.history B.moved (tags_of T.data_tag_of T.node_tag_of))
+            (WriteMoved B.history B.moved (tags_of T.data_tag_of T.node_tag_of))
             self.old.ways self.old.lines (line_of addr) (λ bytes. bytes) (result_err result) self.new.ways self.new.lines }
 
         // The line becomes the most recently used one of its set, and a load marks no line. Where the write of the line that
@@ -197,43 +188,17 @@ impl<B: Bus, T: Tagger> Ram for SecureRam<B, T> {
         ensures ways { stopped self.old ≡ None → OnOk result ((copy : List ℕ) × (copy_at self.new.ways (line_of addr) ≡ Some copy)
             × (self.new.ways ≡ brought self.old.ways (line_of addr) copy)) }
         ensures ways_left { stopped self.old ≡ None → IfErr result (λ stop. IsStoppedMiss
-            (ReadMoved B.history (Reaches B.moved) (tags_of T.data_tag_of T.node_tag_of))
-            (WriteMoved B.history (Reaches B.moved) (tags_of T.data_tag_of T.node_tag_of))
+            (ReadMoved B.history B.moved (tags_of T.data_tag_of T.node_tag_of))
+            (WriteMoved B.history B.moved (tags_of T.data_tag_of T.node_tag_of))
             (leaving self.old.ways (line_of addr)) self.old.ways self.old.lines (line_of addr) stop self.new.ways self.new.lines) }
-
-        // A page that is spent changes no byte, with evidence too.
-        ensures spent_stays { (page : ℕ) → stopped self.old ≡ None → result ≡ Err (Spent page) → contents self.new ≡ contents self.old }
 
         // What stands outside fits what the chip has of it.
         ensures lines_fit { stopped self.new ≡ None → IsQuiet self.new →
             LinesFit T.data_tag_of T.node_tag_of B.history self.new.lines }
 
-        // Sound or not, a line that is held is answered from its copy.
-        ensures held_copy { stopped self.old ≡ None → (copy : List ℕ) → copy_at self.old.ways (line_of addr) ≡ Some copy →
-            IfOk result (λ n. n ≡ number_at copy (addr % 64) width) }
+        // Sound or not, what is answered stands in the line's copy.
         ensures copy { IfOk result (λ n. (copy : List ℕ) → copy_at self.new.ways (line_of addr) ≡ Some copy →
             n ≡ number_at copy (addr % 64) width) }
-
-        // Where no changed line goes out, a line that passed though it was never tagged is answered as it was decrypted, and
-        // no message was made since. Counters that passed so are used as they were answered.
-        ensures accepted { (at : ℕ) (counter : Counter) (sealed : Sealed) (made_count : ℕ) → stopped self.old ≡ None →
-            IsQuiet self.old → leaving self.old.ways (line_of addr) ≡ None →
-            evidence self.new ≡ Some (Forgery at counter sealed made_count) → (at ≡ line_of addr)
-            × (made_count ≡ length (made self.new))
-            × IfOk result (λ n. n ≡ number_at (cipher_of (enc_key self.old.lines) at counter sealed.cipher) (addr % 64) width) }
-        ensures accepted_counters { (made_at : ℕ) (block tag : List ℕ) → stopped self.old ≡ None → IsQuiet self.old →
-            leaving self.old.ways (line_of addr) ≡ None →
-            evidence self.new ≡ Some (Collision 0 (page_of (line_of addr)) made_at block tag) →
-            IfOk result (IsNumberUnder (tag_in T.data_tag_of T.node_tag_of self.old.lines) (enc_key self.old.lines) (line_of addr)
-            (counter_of (place_of (line_of addr)) (block_of block)) (B.history self.new.lines.bus) (addr % 64) width) }
-
-        // Whatever was answered, the counters of a line that is read were those of its page's copy, or of a block with the tag
-        // that the tree keeps, or of zeros where it keeps none.
-        ensures checked { stopped self.old ≡ None → ¬ Contains (held_lines self.old) (line_of addr) →
-            leaving self.old.ways (line_of addr) ≡ None →
-            IfOk result (IsNumberByCounters (tag_in T.data_tag_of T.node_tag_of self.old.lines)
-            (enc_key self.old.lines) self.old.lines.counters self.new.lines.counters (made self.new) (line_of addr)
-            (evidence self.old) (evidence self.new) (B.history self.new.lines.bus) (addr % 64) width) }
     {
         if let Some(stop) = self.lines.stopped() {
             return Err(stop);
@@ -259,14 +224,10 @@ impl<B: Bus, T: Tagger> Ram for SecureRam<B, T> {
 
         ensures extent { 64 * lines_of self.new ≡ 64 * lines_of self.old }
         ensures lost { IsQuiet self.new → IsQuiet self.old }
-        ensures moved { IsMoved B.history (Reaches B.moved) (tags_of T.data_tag_of T.node_tag_of) self.old (line_of addr ∷ []) self.new }
+        ensures moved { IsMoved B.history B.moved (tags_of T.data_tag_of T.node_tag_of) self.old (line_of addr ∷ []) self.new }
 
         // The first stop is answered again, and nothing is done.
         ensures latched { (stop : MemStop) → stopped self.old ≡ Some stop → (result ≡ Err stop) × (self.new ≡ self.old) }
-
-        // So many accesses at most, also where it stops.
-        ensures once { (B.history self.new.lines.bus).accesses
-            ≤ (B.history self.old.lines.bus).accesses + memory_accesses (geometry self.old).levels }
 
         // What it costs, reads and encrypts, and when it stops.
         ensures call { stopped self.old ≡ None → IsLineCall B.history self.old (line_of addr)
@@ -274,8 +235,8 @@ impl<B: Bus, T: Tagger> Ram for SecureRam<B, T> {
 
         // A line that is not held is read, once the changed line that goes out for it was written.
         ensures missed { stopped self.old ≡ None → ¬ Contains (held_lines self.old) (line_of addr) →
-            IsMissed (ReadMoved B.history (Reaches B.moved) (tags_of T.data_tag_of T.node_tag_of))
-            (WriteMoved B.history (Reaches B.moved) (tags_of T.data_tag_of T.node_tag_of))
+            IsMissed (ReadMoved B.history B.moved (tags_of T.data_tag_of T.node_tag_of))
+            (WriteMoved B.history B.moved (tags_of T.data_tag_of T.node_tag_of))
             self.old.ways self.old.lines (line_of addr) (λ bytes. with_number bytes (addr % 64) width value) (result_err result) self.new.ways self.new.lines }
 
         // The line becomes the most recently used one of its set, and is marked. Where the write of the line that goes out
@@ -283,12 +244,9 @@ impl<B: Bus, T: Tagger> Ram for SecureRam<B, T> {
         ensures ways { stopped self.old ≡ None → OnOk result ((copy : List ℕ) × (self.new.ways
             ≡ with_changed (brought self.old.ways (line_of addr) copy) (line_of addr) (with_number copy (addr % 64) width value))) }
         ensures ways_left { stopped self.old ≡ None → IfErr result (λ stop. IsStoppedMiss
-            (ReadMoved B.history (Reaches B.moved) (tags_of T.data_tag_of T.node_tag_of))
-            (WriteMoved B.history (Reaches B.moved) (tags_of T.data_tag_of T.node_tag_of))
+            (ReadMoved B.history B.moved (tags_of T.data_tag_of T.node_tag_of))
+            (WriteMoved B.history B.moved (tags_of T.data_tag_of T.node_tag_of))
             (leaving self.old.ways (line_of addr)) self.old.ways self.old.lines (line_of addr) stop self.new.ways self.new.lines) }
-
-        // A page that is spent changes no byte, with evidence too.
-        ensures spent_stays { (page : ℕ) → stopped self.old ≡ None → result ≡ Err (Spent page) → contents self.new ≡ contents self.old }
 
         // What stands outside fits what the chip has of it.
         ensures lines_fit { stopped self.new ≡ None → IsQuiet self.new →
@@ -297,15 +255,6 @@ impl<B: Bus, T: Tagger> Ram for SecureRam<B, T> {
         // A line that is held gets the number in its copy.
         ensures held_copy { stopped self.old ≡ None → (copy : List ℕ) → copy_at self.old.ways (line_of addr) ≡ Some copy →
             copy_at self.new.ways (line_of addr) ≡ Some (with_number copy (addr % 64) width value) }
-
-        // Where no changed line goes out, a line that passed though it was never tagged is kept as it was decrypted, with the
-        // number in it, and no message was made since.
-        ensures accepted { (at : ℕ) (counter : Counter) (sealed : Sealed) (made_count : ℕ) → stopped self.old ≡ None →
-            IsQuiet self.old → leaving self.old.ways (line_of addr) ≡ None →
-            evidence self.new ≡ Some (Forgery at counter sealed made_count) → (at ≡ line_of addr)
-            × (made_count ≡ length (made self.new))
-            × OnOk result (copy_at self.new.ways (line_of addr)
-            ≡ Some (with_number (cipher_of (enc_key self.old.lines) at counter sealed.cipher) (addr % 64) width value)) }
     {
         if let Some(stop) = self.lines.stopped() {
             return Err(stop);
@@ -316,9 +265,10 @@ impl<B: Bus, T: Tagger> Ram for SecureRam<B, T> {
     ghost sized = { λ memory. length-contents_over (line_contents memory.lines) (lines_of memory) memory.ways };
 
     ghost unmoved = { λ memory.
-        unmoved B.history (Reaches B.moved) (tags_of T.data_tag_of T.node_tag_of) (reaches_none B.moved B.unmoved) memory };
+        unmoved B.history B.moved (tags_of T.data_tag_of T.node_tag_of) B.unmoved memory };
 
     ghost moved_on = { λ first second third before after a b.
-        moved_on B.history (Reaches B.moved) (tags_of T.data_tag_of T.node_tag_of) (reaches_on B.moved B.moved_on)
+        moved_on B.history B.moved (tags_of T.data_tag_of T.node_tag_of)
+        (same_tags T.data_tag_of T.node_tag_of) B.moved_on
         first second third before after a b };
 }

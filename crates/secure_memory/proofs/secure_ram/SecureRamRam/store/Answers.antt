@@ -1,25 +1,20 @@
-use Rattle.std.proofs.Common.{◌≡◌, ◌+◌, ◌%◌, ◌≤◌, ◌∷◌, [], ℕ, List, length, Option, Some, None, OnOk, Contains, inl, inr, ap, sym, ◌∙◌, subst, Result, IfErr, refl}
+use Rattle.std.proofs.Common.{◌≡◌, ◌%◌, ◌∷◌, [], ℕ, List, Option, Some, None, OnOk, Contains, ap, sym, ◌∙◌, subst, IfErr}
 use Rattle.std.specs.Option.{option_or}
 use Rattle.std.specs.Result.{result_err}
 use Rattle.sec_base.specs.Geometry.{line_of}
 use Rattle.sec_base.specs.Width.{with_number}
-use Rattle.sec_base.specs.declared.evidence.Evidence.TheVariants.{Forgery}
 use Rattle.sec_base.specs.declared.stop.MemStop.{MemStop}
-use Rattle.sec_base.specs.declared.stop.MemStop.TheVariants.{Spent}
-use Rattle.sec_base.proofs.Results.{on_ok}
-use Rattle.bus_model.specs.Access.{Reaches, reaches_none, reaches_on}
 use Rattle.tag_engine.specs.TagEngine.{tags_of}
-use Rattle.pad_stream.specs.Pad.{cipher_of}
 use Rattle.page_reencrypt.specs.LineMoves.{ReadMoved, WriteMoved}
-use Rattle.page_reencrypt.specs.SealedLines.{SealedLinesView, enc_key}
+use Rattle.page_reencrypt.specs.SealedLines.{SealedLinesView}
 use Rattle.page_reencrypt.specs.Stops.{lasting_stop}
-use Rattle.page_reencrypt.proofs.Sealing.{listed_or_not}
 use Rattle.cache_set.specs.Cache.{copy_at, places}
 use Rattle.cache_set.specs.Bringing.{brought, leaving, with_changed}
 use Rattle.line_cache.specs.LineCache.{IsMissed, IsStoppedMiss, LineCacheView}
 use Rattle.secure_memory.specs.LineCall.{IsLineCall}
-use Rattle.secure_memory.specs.SecureRam.{SecureRamView, IsMoved, contents, geometry, memory_accesses, stopped}
-use Rattle.secure_memory.proofs.LineCalls.{accepted_copy, called, copy_held, few_so, fits_so, found_outside, memory_of, moved_so, ok_goes, once_so, spent_contents, stopped_unmoved, stops_so}
+use Rattle.secure_memory.specs.SecureRam.{SecureRamView, IsMoved, stopped}
+use Rattle.checked_bus.proofs.Makes.{same_tags}
+use Rattle.secure_memory.proofs.LineCalls.{called, copy_held, few_so, fits_so, memory_of, moved_so, ok_goes, stopped_unmoved, stops_so}
 use Rattle.secure_memory.proofs.secure_ram.SecureRamRam.store.Given.{Over}
 use Rattle.secure_memory.proofs.secure_ram.SecureRamRam.store.Goals as goal
 
@@ -29,7 +24,7 @@ pub returns-in-Some-clause-moved : goal.returns-in-Some-clause-moved
 returns-in-Some-clause-moved g c =
     let is : stopped c.args.self.now ≡ Some c.in-Some.stop =
     ap (λ (m : SecureRamView g.row.B.Denot g.row.T.Denot). m.lines.stopped) (sym c.self.view_is) ∙ sym c.self.invariant.0 ∙ sym c.stopped.ensures ∙ c.in-Some.is in
-    stopped_unmoved g.B.Bus.history (Reaches g.B.Bus.moved) (tags_of g.T.Tagger.data_tag_of g.T.Tagger.node_tag_of) (reaches_none g.B.Bus.moved g.met.B.Bus.unmoved)
+    stopped_unmoved g.B.Bus.history g.B.Bus.moved (tags_of g.T.Tagger.data_tag_of g.T.Tagger.node_tag_of) g.met.B.Bus.unmoved
     c.args.self.now (line_of c.args.addr ∷ []) c.in-Some.stop is
 
 -- a call of the cache
@@ -47,62 +42,43 @@ pub invariant_of-self : goal.invariant_of-self
 invariant_of-self g c =
     let tags = tags_of g.T.Tagger.data_tag_of g.T.Tagger.node_tag_of in
     let cache : LineCacheView (SealedLinesView g.row.B.Denot g.row.T.Denot) = c.self.inside.lines in
-    let stops = stops_so g.B.Bus.history (Reaches g.B.Bus.moved) tags cache c.store.new.self (line_of c.args.addr) (result_err c.store.result) (λ bytes. with_number bytes (c.args.addr % 64) c.args.width c.args.value)
+    let stops = stops_so g.B.Bus.history g.B.Bus.moved tags cache c.store.new.self (line_of c.args.addr) (result_err c.store.result) (λ bytes. with_number bytes (c.args.addr % 64) c.args.width c.args.value)
     (going g c) c.store.ensures.moved (hit g c) c.store.ensures.missed in (
       c.store.ensures.kept ∙ ap (λ (o : Option MemStop). option_or o (result_err c.store.result)) (none_stopped g c) ∙ sym stops,
-      few_so g.B.Bus.history (Reaches g.B.Bus.moved) tags cache c.store.new.self (line_of c.args.addr) (result_err c.store.result) (λ bytes. with_number bytes (c.args.addr % 64) c.args.width c.args.value)
+      few_so g.B.Bus.history g.B.Bus.moved tags cache c.store.new.self (line_of c.args.addr) (result_err c.store.result) (λ bytes. with_number bytes (c.args.addr % 64) c.args.width c.args.value)
           (going g c) c.store.ensures.moved (hit g c) c.store.ensures.missed,
-      λ still. fits_so g.B.Bus.history (Reaches g.B.Bus.moved) tags cache c.store.new.self (line_of c.args.addr) (result_err c.store.result) (λ bytes. with_number bytes (c.args.addr % 64) c.args.width c.args.value)
+      λ still. fits_so g.B.Bus.history g.B.Bus.moved tags cache c.store.new.self (line_of c.args.addr) (result_err c.store.result) (λ bytes. with_number bytes (c.args.addr % 64) c.args.width c.args.value)
           (going g c) c.store.ensures.moved (hit g c) c.store.ensures.missed (λ lasting. c.self.invariant.2 (going g c)) (ap lasting_stop still),
       c.self.invariant.3 ∙ sym c.store.ensures.extent,
     )
 
 pub returns-clause-lines_fit : goal.returns-clause-lines_fit
 returns-clause-lines_fit g c = λ still.
-    fits_so g.B.Bus.history (Reaches g.B.Bus.moved) (tags_of g.T.Tagger.data_tag_of g.T.Tagger.node_tag_of) c.self.inside.lines c.store.new.self
+    fits_so g.B.Bus.history g.B.Bus.moved (tags_of g.T.Tagger.data_tag_of g.T.Tagger.node_tag_of) c.self.inside.lines c.store.new.self
     (line_of c.args.addr) (result_err c.store.result) (λ bytes. with_number bytes (c.args.addr % 64) c.args.width c.args.value)
     (going g c) c.store.ensures.moved (hit g c) c.store.ensures.missed (λ lasting. c.self.invariant.2 (going g c)) (ap lasting_stop still)
 
 pub returns-clause-moved : goal.returns-clause-moved
 returns-clause-moved g c =
     let tags = tags_of g.T.Tagger.data_tag_of g.T.Tagger.node_tag_of in
-    subst (λ (m : SecureRamView g.row.B.Denot g.row.T.Denot). IsMoved g.B.Bus.history (Reaches g.B.Bus.moved) tags m (line_of c.args.addr ∷ []) (memory_of c.store.new.self)) c.self.view_is
-    (moved_so g.B.Bus.history (Reaches g.B.Bus.moved) tags c.self.inside.lines c.store.new.self (line_of c.args.addr) (result_err c.store.result) (λ bytes. with_number bytes (c.args.addr % 64) c.args.width c.args.value)
-    (going g c) c.store.ensures.moved (hit g c) c.store.ensures.missed (reaches_none g.B.Bus.moved g.met.B.Bus.unmoved) (reaches_on g.B.Bus.moved g.met.B.Bus.moved_on))
-
-pub returns-clause-once : goal.returns-clause-once
-returns-clause-once g c =
-    let tags = tags_of g.T.Tagger.data_tag_of g.T.Tagger.node_tag_of in
-    subst (λ (m : SecureRamView g.row.B.Denot g.row.T.Denot). (g.B.Bus.history c.store.new.self.store.bus).accesses
-    ≤ (g.B.Bus.history m.lines.bus).accesses + memory_accesses (geometry m).levels) c.self.view_is
-    (once_so g.B.Bus.history (Reaches g.B.Bus.moved) tags c.self.inside.lines c.store.new.self (line_of c.args.addr) (result_err c.store.result) (λ bytes. with_number bytes (c.args.addr % 64) c.args.width c.args.value)
-    (going g c) c.store.ensures.moved (hit g c) c.store.ensures.missed)
+    subst (λ (m : SecureRamView g.row.B.Denot g.row.T.Denot). IsMoved g.B.Bus.history g.B.Bus.moved tags m (line_of c.args.addr ∷ []) (memory_of c.store.new.self)) c.self.view_is
+    (moved_so g.B.Bus.history g.B.Bus.moved tags c.self.inside.lines c.store.new.self (line_of c.args.addr) (result_err c.store.result) (λ bytes. with_number bytes (c.args.addr % 64) c.args.width c.args.value)
+    (going g c) c.store.ensures.moved (hit g c) c.store.ensures.missed g.met.B.Bus.unmoved (same_tags g.T.Tagger.data_tag_of g.T.Tagger.node_tag_of) g.met.B.Bus.moved_on)
 
 pub returns-clause-call : goal.returns-clause-call
 returns-clause-call g c = λ _.
     let tags = tags_of g.T.Tagger.data_tag_of g.T.Tagger.node_tag_of in
     subst (λ (m : SecureRamView g.row.B.Denot g.row.T.Denot). IsLineCall g.B.Bus.history m (line_of c.args.addr) (leaving m.ways (line_of c.args.addr))
     (result_err c.store.result) (memory_of c.store.new.self)) c.self.view_is
-    (called g.B.Bus.history (Reaches g.B.Bus.moved) tags c.self.inside.lines c.store.new.self (line_of c.args.addr) (result_err c.store.result) (λ bytes. with_number bytes (c.args.addr % 64) c.args.width c.args.value)
+    (called g.B.Bus.history g.B.Bus.moved tags c.self.inside.lines c.store.new.self (line_of c.args.addr) (result_err c.store.result) (λ bytes. with_number bytes (c.args.addr % 64) c.args.width c.args.value)
     (going g c) c.store.ensures.moved (hit g c) c.store.ensures.missed)
 
 pub returns-clause-ways_left : goal.returns-clause-ways_left
 returns-clause-ways_left g c = λ _.
     let tags = tags_of g.T.Tagger.data_tag_of g.T.Tagger.node_tag_of in
     subst (λ (m : SecureRamView g.row.B.Denot g.row.T.Denot). IfErr c.store.result (λ stop. IsStoppedMiss
-    (ReadMoved g.B.Bus.history (Reaches g.B.Bus.moved) tags) (WriteMoved g.B.Bus.history (Reaches g.B.Bus.moved) tags)
+    (ReadMoved g.B.Bus.history g.B.Bus.moved tags) (WriteMoved g.B.Bus.history g.B.Bus.moved tags)
     (leaving m.ways (line_of c.args.addr)) m.ways m.lines (line_of c.args.addr) stop c.store.new.self.lines c.store.new.self.store)) c.self.view_is c.store.ensures.ways_left
-
-pub returns-clause-spent_stays : goal.returns-clause-spent_stays
-returns-clause-spent_stays g c = λ page _ is.
-    let tags = tags_of g.T.Tagger.data_tag_of g.T.Tagger.node_tag_of in
-    let cache : LineCacheView (SealedLinesView g.row.B.Denot g.row.T.Denot) = c.self.inside.lines in
-    let missed = subst (λ (answer : Result (Unit {0}) MemStop). IfErr answer (λ stop. IsStoppedMiss
-    (ReadMoved g.B.Bus.history (Reaches g.B.Bus.moved) tags) (WriteMoved g.B.Bus.history (Reaches g.B.Bus.moved) tags)
-    (leaving cache.lines (line_of c.args.addr)) cache.lines cache.store (line_of c.args.addr) stop c.store.new.self.lines c.store.new.self.store)) is c.store.ensures.ways_left in
-    subst (λ (m : SecureRamView g.row.B.Denot g.row.T.Denot). contents (memory_of c.store.new.self) ≡ contents m) c.self.view_is
-    (spent_contents g.B.Bus.history (Reaches g.B.Bus.moved) tags cache.store c.store.new.self.store cache.lines c.store.new.self.lines (line_of c.args.addr) (Spent page) page
-    (going g c) refl (leaving cache.lines (line_of c.args.addr)) missed)
 
 pub returns-clause-ways : goal.returns-clause-ways
 returns-clause-ways g c = λ _.
@@ -113,7 +89,7 @@ pub returns-clause-missed : goal.returns-clause-missed
 returns-clause-missed g c = λ _.
     let tags = tags_of g.T.Tagger.data_tag_of g.T.Tagger.node_tag_of in
     subst (λ (m : SecureRamView g.row.B.Denot g.row.T.Denot). ¬ Contains (places m.ways) (line_of c.args.addr) →
-    IsMissed (ReadMoved g.B.Bus.history (Reaches g.B.Bus.moved) tags) (WriteMoved g.B.Bus.history (Reaches g.B.Bus.moved) tags)
+    IsMissed (ReadMoved g.B.Bus.history g.B.Bus.moved tags) (WriteMoved g.B.Bus.history g.B.Bus.moved tags)
     m.ways m.lines (line_of c.args.addr) (λ bytes. with_number bytes (c.args.addr % 64) c.args.width c.args.value) (result_err c.store.result) c.store.new.self.lines c.store.new.self.store) c.self.view_is c.store.ensures.missed
 
 pub returns-clause-held_copy : goal.returns-clause-held_copy
@@ -123,21 +99,3 @@ returns-clause-held_copy g c = λ _.
     (λ copy is. (c.store.ensures.hit (copy_held c.self.inside.lines.lines (line_of c.args.addr) copy is)).2 copy is)
 
 -- what passed its check, where nothing goes out
-
-pub returns-clause-accepted : goal.returns-clause-accepted
-returns-clause-accepted g c = λ at counter sealed made_count _.
-    let tags = tags_of g.T.Tagger.data_tag_of g.T.Tagger.node_tag_of in
-    let cache : LineCacheView (SealedLinesView g.row.B.Denot g.row.T.Denot) = c.self.inside.lines in
-    let line = line_of c.args.addr in
-    subst (λ (m : SecureRamView g.row.B.Denot g.row.T.Denot). m.lines.engine.evidence ≡ None → leaving m.ways line ≡ None →
-    c.store.new.self.store.engine.evidence ≡ Some (Forgery at counter sealed made_count) → (at ≡ line)
-    × (made_count ≡ length c.store.new.self.store.engine.made)
-    × OnOk c.store.result (copy_at c.store.new.self.lines line
-    ≡ Some (with_number (cipher_of (enc_key m.lines) at counter sealed.cipher) (c.args.addr % 64) c.args.width c.args.value))) c.self.view_is
-    (λ quiet stays found. elim (listed_or_not (places cache.lines) line) [
-      | inl there ↦ absurd (found_outside cache.store c.store.new.self.store (Forgery at counter sealed made_count) (c.store.ensures.hit there).1 quiet found)
-      | inr out ↦
-          let accepted = accepted_copy g.B.Bus.history (Reaches g.B.Bus.moved) tags cache c.store.new.self.store c.store.new.self.lines line (result_err c.store.result) (λ bytes. with_number bytes (c.args.addr % 64) c.args.width c.args.value)
-          (going g c) stays (c.store.ensures.missed out) at counter sealed made_count quiet found in
-          (accepted.0, accepted.1, on_ok c.store.result accepted.2)
-    ])
