@@ -1,5 +1,5 @@
 -- A run on the device, as its pieces were made.
-use Rattle.std.proofs.Common.{◌≡◌, ◌∙◌, ℕ, List, Option, Some, None, Result, Ok, Err, refl}
+use Rattle.std.proofs.Common.{◌≡◌, ◌∙◌, ℕ, List, map, Option, Some, None, Result, Ok, Err, refl, ap, subst}
 use Rattle.std.specs.Result.{IsOkAnd}
 use Rattle.sec_base.specs.Geometry.{GeometryView, memory_size}
 use Rattle.sec_base.specs.declared.image.Image.{Image}
@@ -13,8 +13,14 @@ use Rattle.sec_base.specs.Program.{IsImageOf, Program}
 use Rattle.chip_words.specs.declared.request.Tags.TheVariants.{Hmac, Xor}
 use Rattle.chip_words.specs.declared.request.Terms.{Terms}
 use Rattle.adversary_script.specs.declared.script.ScriptLine.{ScriptLine}
-use Rattle.bus_model.specs.Access.{Reaches}
-use Rattle.chip_device.specs.Buses.{IsBusOf, IsSameKind}
+use Rattle.sec_base.specs.Place.{IsPlace}
+use Rattle.sec_base.specs.declared.message.Message.{Message}
+use Rattle.bus_model.specs.Access.{Access, AreOf, CameBy}
+use Rattle.bus_model.specs.BusHistory.{BusHistory, new_history}
+use Rattle.checked_bus.specs.Makes.{access_of}
+use Rattle.chip_run.specs.Run.{KeepsAccesses, Terms as RunTerms}
+use Rattle.chip_run.specs.declared.RunRecord.{RunRecord}
+use Rattle.chip_device.specs.Buses.{IsBusOf, IsSameKind, WentOver, kind_told, run_history}
 use Rattle.chip_device.specs.declared.run_bus.RunBus.{RunBus}
 use Rattle.chip_device.specs.declared.run_bus.RunBus.TheVariants.{Honest, Script}
 use Rattle.chip_device.specs.Device.{device_enc_key, device_tag, opening}
@@ -51,10 +57,32 @@ program_of (Ok program) P holds = (program, refl, holds)
 program_of (Err fault) P holds = absurd holds
 
 -- a bus that follows a script follows it still
-pub still_of : (script : Option (List ScriptLine)) (old new : RunBus) → IsBusOf script old → Reaches IsSameKind old new → IsBusOf script new
-still_of None (Honest old) (Honest new) is same = tt
-still_of (Some script) (Script old) (Script new) is same = same.by.0 ∙ is
-still_of None (Honest old) (Script new) is same = absurd same.by
-still_of (Some script) (Script old) (Honest new) is same = absurd same.by
-still_of None (Script old) new is same = absurd is
-still_of (Some script) (Honest old) new is same = absurd is
+pub still_of : (script : Option (List ScriptLine)) (old new : RunBus) (accesses : List Access) → IsBusOf script old → IsSameKind old accesses new → IsBusOf script new
+still_of None (Honest old) (Honest new) accesses is same = tt
+still_of (Some script) (Script old) (Script new) accesses is same = same.0 ∙ is
+still_of None (Honest old) (Script new) accesses is same = absurd same
+still_of (Some script) (Script old) (Honest new) accesses is same = absurd same
+still_of None (Script old) new accesses is same = absurd is
+still_of (Some script) (Honest old) new accesses is same = absurd is
+
+-- what a run on a new bus tells of its accesses, by the terms that it was asked on
+pub went_over : (terms asked : RunTerms) (run : RunRecord) (old new : RunBus) → terms.tag_of ≡ asked.tag_of → terms.geometry ≡ asked.geometry →
+    run_history old ≡ new_history asked.geometry → (accesses : List Access) × IsSameKind old accesses new × KeepsAccesses terms accesses run →
+    WentOver asked run new
+went_over terms asked run old new tags geometry begins told =
+    let accesses : List Access = told.0 in
+    let keeps = told.2 in
+    record {
+      accesses = accesses;
+      came = subst (λ (history : BusHistory). CameBy history accesses (run_history new)) begins (kind_told old new accesses told.1);
+      keeps = record {
+        written = keeps.written;
+        unwritten = keeps.unwritten;
+        made = keeps.made;
+        writes = keeps.writes ∙ ap (λ (tag_of : Message → List ℕ). map (access_of tag_of) keeps.written) tags;
+        few = keeps.few;
+        inside = subst (λ (shape : GeometryView). AreOf (IsPlace shape) accesses) geometry keeps.inside;
+        shown = keeps.shown;
+        tampered = keeps.tampered;
+      };
+    }

@@ -5,8 +5,10 @@ use Rattle.adversary_script.specs.declared.script.ScriptLine.{ScriptLine}
 use Rattle.bus_adversary.specs.ChangedPlaces.{script_may_change}
 use Rattle.bus_adversary.specs.ScriptBus.{KeepsScript, keeps_on, script_history}
 use Rattle.bus_model.specs.Access.{Access, CameBy, came_on}
-use Rattle.bus_model.specs.BusHistory.{BusHistory}
+use Rattle.bus_model.specs.BusHistory.{BusHistory, new_history}
 use Rattle.bus_model.specs.HonestBus.{honest_history}
+use Rattle.chip_run.specs.Run.{KeepsAccesses, Terms}
+use Rattle.chip_run.specs.declared.RunRecord.{RunRecord}
 use Rattle.chip_device.specs.declared.run_bus.RunBus.{RunBus}
 use Rattle.chip_device.specs.declared.run_bus.RunBus.TheVariants.{Honest, Script}
 
@@ -58,6 +60,13 @@ IsBusOf None (Honest bus) = Unit {0}
 IsBusOf (Some script) (Script bus) = bus.script ≡ script
 IsBusOf None (Script bus) = ⊥
 IsBusOf (Some script) (Honest bus) = ⊥
+
+-- What went over the bus of a run, which was new before it, as far as its history tells: some accesses that give it, whose
+-- writes are the run's messages, in order.
+pub record WentOver (terms : Terms) (run : RunRecord) (bus : RunBus) : Type 0 where
+  pub accesses : List Access
+  pub came : CameBy (new_history terms.geometry) accesses (run_history bus)
+  pub keeps : KeepsAccesses terms accesses run
 
 -- False answers come of the script: there is none where it has no line, and the first is about a place that the action
 -- of some line may change.

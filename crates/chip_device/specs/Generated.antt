@@ -9,7 +9,7 @@ use Rattle.chip_words.specs.Defaults.{default_execution, default_run}
 use Rattle.chip_words.specs.Request.{ExecutionAsked, RunAsked}
 use Rattle.workload_gen.specs.Workload.{workload_of}
 use Rattle.chip_device.specs.declared.run_bus.RunBus.{RunBus}
-use Rattle.chip_device.specs.Buses.{IsBusOf, run_history}
+use Rattle.chip_device.specs.Buses.{IsBusOf, WentOver, run_history}
 use Rattle.chip_device.specs.Device.{terms_of}
 
 -- a tree of four levels, no input, and the steps that a run has by default; it is of no file
@@ -24,10 +24,12 @@ generated_run = default_run []
 abbrev pub gathered : List ℕ → SinkState
 gathered bytes = record { written = Some bytes; faults = 0 }
 
--- the generated program of the number ran so, over an honest bus that was new, and printed these bytes
+-- the generated program of the number ran so, over an honest bus that was new and whose writes are the run's messages, in
+-- order, and printed these bytes
 pub record RunsGenerated (number : ℕ) (printed : List ℕ) (run : RunRecord) (bus : RunBus) : Type 0 where
   pub program : Program
   pub program_is : workload_of number ≡ Ok program
   pub bus_is : IsBusOf None bus
   pub runs : RunsProtected (terms_of generated_run program []) (gathered []) (gathered printed)
       (new_history generated_execution.file.geometry) (run_history bus) run
+  pub accesses : WentOver (terms_of generated_run program []) run bus

@@ -7,7 +7,7 @@ ghost use Rattle.sec_base.specs.Sink.{IsSilent};
 ghost use Rattle.bus_model.specs.BusHistory.{new_history};
 ghost use Rattle.chip_run.specs.Run.{RunsProtected};
 ghost use Rattle.chip_words.specs.Words.{run_asked};
-ghost use Rattle.chip_device.specs.Buses.{IsBusOf, run_history};
+ghost use Rattle.chip_device.specs.Buses.{IsBusOf, WentOver, run_history};
 ghost use Rattle.chip_device.specs.Device.{terms_of};
 
 use crate::run_bus::RunBus;
@@ -35,6 +35,11 @@ pub fn run_on_device<O: Sink>(
         RunsProtected (terms_of (run_asked asked.now) program input.now) (O.state out.old) (O.state out.new)
         (new_history asked.now.execution.file.geometry) (run_history done.1) done.0) }
     ensures bus { IfOk result (λ done. IsBusOf script done.1) }
+
+    // The writes of its bus are the messages of the run, in order.
+    ensures accesses { (program : Program) →
+        IfOk result (λ done. WentOver (terms_of (run_asked asked.now) program input.now) done.0 done.1) }
+
     ensures silent { OnErr result (IsSilent (O.state out.old) (O.state out.new)) }
     ensures faults { (O.state out.old).faults ≤ (O.state out.new).faults }
 {

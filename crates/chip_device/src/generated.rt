@@ -4,7 +4,7 @@ ghost use Rattle.sec_base.specs.Geometry.{memory_size, one};
 ghost use Rattle.sec_base.specs.Program.{IsImageOf, Program};
 ghost use Rattle.bus_model.specs.BusHistory.{new_history};
 ghost use Rattle.chip_run.specs.Run.{RunsProtected};
-ghost use Rattle.chip_device.specs.Buses.{IsBusOf, run_history};
+ghost use Rattle.chip_device.specs.Buses.{IsBusOf, WentOver, run_history};
 ghost use Rattle.chip_device.specs.Device.{terms_of};
 ghost use Rattle.chip_device.specs.Generated.{RunsGenerated, gathered, generated_run};
 
@@ -83,6 +83,8 @@ fn run_by_default(
         RunsProtected (terms_of generated_run program []) (gathered printed.old) (gathered printed.new)
         (new_history (one 4)) (run_history done.1) done.0) }
     ensures bus { IfOk result (λ done. IsBusOf None done.1) }
+    ensures accesses { (program : Program) →
+        IfOk result (λ done. WentOver (terms_of generated_run program []) done.0 done.1) }
 {
     let default = default_run("");
     let file = ProgramFile {

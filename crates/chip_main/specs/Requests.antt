@@ -17,7 +17,7 @@ use Rattle.chip_files.specs.Causes.{AsksNothing}
 use Rattle.chip_files.specs.Taken.{ReadsExecution, ReadsProgram, ReadsReport, ReadsRun}
 use Rattle.chip_files.specs.Verdict.{HasOtherTag, IsMadeBy}
 use Rattle.chip_device.specs.declared.run_bus.RunBus.{RunBus}
-use Rattle.chip_device.specs.Buses.{IsBusOf, run_history}
+use Rattle.chip_device.specs.Buses.{IsBusOf, WentOver, run_history}
 use Rattle.chip_device.specs.Device.{opening, terms_of}
 use Rattle.chip_device.specs.Generated.{RunsGenerated}
 use Rattle.plain_machine.specs.PlainRun.{RunsPlain}
@@ -39,7 +39,8 @@ ByCommand (Ok (to_verify report)) run plain writes verify bench = verify report
 ByCommand (Ok (to_bench number)) run plain writes verify bench = bench number
 
 -- the run's program and input are those that the request names, and its terms are the request's; its bus was new, and
--- is that of just the script that the request names, or honest where it names none
+-- is that of just the script that the request names, or honest where it names none; the writes of its bus are its messages,
+-- in order
 pub record RunsRequested (asked : RunAsked) (files files' : FilesState) (out out' : SinkState) (run : RunRecord) (bus : RunBus) : Type 0 where
   pub program : Program
   pub script : Option (List ScriptLine)
@@ -48,6 +49,7 @@ pub record RunsRequested (asked : RunAsked) (files files' : FilesState) (out out
   pub bus_is : IsBusOf script bus
   pub runs : RunsProtected (terms_of asked program input) out out'
       (new_history asked.execution.file.geometry) (run_history bus) run
+  pub accesses : WentOver (terms_of asked program input) run bus
 
 -- the program and the input that the request names ran on the plain machine, and gave this record
 abbrev pub PlainlyRuns : ExecutionAsked → FilesState → FilesState → SinkState → SinkState → PlainRecord → Type 0

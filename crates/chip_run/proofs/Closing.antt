@@ -25,7 +25,7 @@ ended_tampered : (stopped : Option MemStop) (ending : Ending) (place : Place) �
 ended_tampered None ending place carries is = cc
 ended_tampered (Some stop) ending place carries is = cc
 
-stopped_tampered : (stopped : Option MemStop) (ending : Ending) (place : Place) → CarriesEnding stopped (Some ending) → ending ≡ Tampered place → stopped ≡ Some (tampered place)
+pub stopped_tampered : (stopped : Option MemStop) (ending : Ending) (place : Place) → CarriesEnding stopped (Some ending) → ending ≡ Tampered place → stopped ≡ Some (tampered place)
 stopped_tampered None ending place carries is = let stop = carries (tampered place) (ap Some is) in cc
 stopped_tampered (Some (tampered other)) ending place carries is = cc
 stopped_tampered (Some (spent page)) ending place carries is = cc

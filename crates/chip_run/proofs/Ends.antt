@@ -23,14 +23,13 @@ use Rattle.rv32_core.specs.Machine.{Machine, plain}
 use Rattle.rv32_core.specs.Turnover.{page_turnover, turnover}
 use Rattle.rv32_core.proofs.Plain.{whole_run}
 use Rattle.rv32_run.specs.Execution.{CarriesEnding, IsMemoryEnding}
-use Rattle.checked_bus.specs.Accesses.{WritesMessages}
 use Rattle.checked_bus.specs.Steps.{IsAccounted}
 use Rattle.pad_stream.specs.PadBlocks.{ShareNoBlock}
 use Rattle.pad_stream.specs.Pads.{of_lines}
 use Rattle.bonsai_tree.specs.Tree.{NodesAreMade, NodesHoldLast, UnmadeAreUnread}
 use Rattle.page_reencrypt.specs.Contents.{ArePaged, HoldsLast, HoldsSealed, IsSpent, NodesSay, counter_in}
 use Rattle.page_reencrypt.specs.SealedLines.{CountersRise}
-use Rattle.chip_run.specs.Run.{Terms, EndsAnywhere, FollowsPlain, IsCutOff, IsWrittenOut, KeepsBudget, KeepsLists, KeepsPads, RanProtected, ShowsEvidence, default_page_limit, unwritten_at}
+use Rattle.chip_run.specs.Run.{Terms, EndsAnywhere, FollowsPlain, IsCutOff, IsWrittenOut, KeepsBudget, KeepsLists, KeepsPads, RanProtected, ShowsEvidence, default_page_limit}
 use Rattle.chip_run.specs.declared.record.RunRecord.{RunRecord}
 use Rattle.chip_run.proofs.Closing.{ended_account, never_wanting, not_lasting, stopped_spent}
 
@@ -50,9 +49,7 @@ pub record OfMemory (terms : Terms) (before after : BusHistory) (run : RunRecord
   pub few : length run.used < 2 ^ 64
   pub apart : run.evidence ≡ None → ShareNoBlock terms.enc_key run.used
   pub accounted : IsAccounted terms.tag_of run.used run.made after stopped run.evidence
-  pub accesses : WritesMessages before after (length run.made) (unwritten_at run.ending)
   pub reads : (place : Place) → RoseBy 0 (before.reads place) (after.reads place)
-  pub geometry_are : after.geometry ≡ terms.geometry
   pub unread : run.evidence ≡ None → UnmadeAreUnread before run.made after
 
 -- The places of the lines, and of the pages' counter blocks, were read at least as often as the run turned over.
@@ -127,7 +124,7 @@ module _ (terms : Terms) (printed : List ℕ) (before after : BusHistory) (run :
   paged : run.evidence ≡ None → ¬ EndsAnywhere run.ending → ArePaged (line_count terms.geometry) run.used
   paged quiet whole = (memory.rise quiet).paged (not_lasting memory.stopped run.ending memory.carries whole)
 
-  keeps_lists : KeepsLists (λ line. line < line_count terms.geometry) terms before after run
+  keeps_lists : KeepsLists (λ line. line < line_count terms.geometry) terms after run
   keeps_lists = record {
     inside = memory.inside;
     few = memory.few;
@@ -136,9 +133,6 @@ module _ (terms : Terms) (printed : List ℕ) (before after : BusHistory) (run :
     nodes = memory.nodes;
     holds_last = λ some. memory.holds_last (never_wanting memory.stopped run.ending memory.carries some);
     nodes_hold_last = λ some. memory.nodes_hold_last (never_wanting memory.stopped run.ending memory.carries some);
-    accesses = memory.accesses;
-    reads = memory.reads;
-    geometry_are = memory.geometry_are;
   }
 
   follows_plain : run.evidence ≡ None → FollowsPlain terms printed after run

@@ -13,14 +13,14 @@ use Rattle.sec_base.specs.declared.place.Place.{Place}
 use Rattle.sec_base.specs.declared.place.Place.TheVariants.{Line as line_place, Node}
 use Rattle.sec_base.specs.declared.stop.MemStop.{MemStop}
 use Rattle.sec_base.specs.declared.stop.MemStop.TheVariants.{Tampered, NoMemory as no_memory}
+use Rattle.bus_model.specs.Access.{Access}
 use Rattle.bus_model.specs.BusHistory.{BusHistory, NothingWritten}
 use Rattle.tag_engine.specs.Tag.{engine_tag}
 use Rattle.tag_engine.specs.TagEngine.{tags_of}
 use Rattle.pad_stream.proofs.RisingCounters.{rising_nothing}
 use Rattle.rv32_core.specs.Machine.{Machine}
 use Rattle.rv32_run.specs.Execution.{CarriesEnding}
-use Rattle.checked_bus.specs.Accesses.{WritesMessages}
-use Rattle.checked_bus.specs.Steps.{IsAccounted, unwritten_in}
+use Rattle.checked_bus.specs.Steps.{IsAccounted}
 use Rattle.pad_stream.specs.PadBlocks.{ShareNoBlock}
 use Rattle.pad_stream.specs.Pads.{of_lines}
 use Rattle.bonsai_tree.specs.Tree.{NodesAreMade, UnmadeAreUnread}
@@ -29,11 +29,9 @@ use Rattle.page_reencrypt.specs.SealedLines.{AccountsForAll, AreNew, AreProtecte
 use Rattle.cache_set.specs.declared.way.Way.{Way}
 use Rattle.line_cache.specs.LineCache.{contents_over}
 use Rattle.chip_run.specs.Report.{ReportTerms}
-use Rattle.chip_run.specs.Run.{Terms, unwritten_at}
+use Rattle.chip_run.specs.Run.{KeepsAccesses, Terms}
 use Rattle.chip_run.specs.declared.record.RunRecord.{RunRecord}
-use Rattle.checked_bus.proofs.Steps.{counted_not}
 use Rattle.bonsai_tree.proofs.MadeSlots.{slots_none}
-use Rattle.chip_run.proofs.Closing.{unwritten_most}
 use Rattle.chip_run.proofs.Ends.{OfMemory}
 
 -- The false answers are accounted for as it begins
@@ -121,29 +119,24 @@ no_memory_run terms bus run as_many honest empty ended none_made none_used none 
       few = omega arith;
       apart = λ quiet. record { apart = λ first second line other counter later block another here there low high same. absurd (cc) };
       accounted = begins_accounted terms.tag_of [] [] bus (Some no_memory) None honest refl (λ place is. cc);
-      accesses = record { writes = 0; counted = counted_not bus; at_most = omega arith; at_least = omega arith };
       reads = λ place. omega arith;
-      geometry_are = as_many;
       unread = λ quiet level index none. refl;
     })
 
--- A run that had a memory
+-- it made no access
+pub no_accesses : (terms : Terms) (run : RunRecord) → run.ending ≡ NoMemory → run.made ≡ [] → run.evidence ≡ None → KeepsAccesses terms [] run
+no_accesses terms run ended none_made none = record {
+  written = [];
+  unwritten = [];
+  made = none_made;
+  writes = refl;
+  few = omega arith;
+  inside = tt;
+  shown = λ evidence is. absurd (cc);
+  tampered = λ place is. absurd (cc);
+}
 
--- each access was a read, or wrote a message of its own
-all_counted : (before after : BusHistory) (made more : List Message) (stopped : Option MemStop) (ending : Ending) →
-    WritesMessages before after (length more) (unwritten_in stopped) → made ≡ more → CarriesEnding stopped (Some ending) →
-    WritesMessages before after (length made) (unwritten_at ending)
-all_counted before after made more stopped ending messages all carries =
-    let as_long : length made ≡ length more = ap length all in
-    let wanting = unwritten_most stopped ending carries in
-    let most = messages.at_most in
-    let least = messages.at_least in
-    record {
-      writes = messages.writes;
-      counted = messages.counted;
-      at_most = omega (arith, as_long, most);
-      at_least = omega (arith, as_long, least, wanting);
-    }
+-- A run that had a memory
 
 -- the lines outside, in other words for their parts
 abbrev in_words : {B T : Type 0} → SealedLinesView B T → B → T → GeometryView → List ℕ → ℕ → List Message → Option Evidence → List (ℕ × Counter) → SealedLinesView B T
@@ -169,7 +162,7 @@ same_lines {B} {T} lines bus tagger shape key limit made' evidence' used' bus_is
     ∙ ap (λ (e : Option Evidence). in_words lines bus tagger shape key limit made' e (used lines)) (sym evidence_is)
     ∙ ap (λ (xs : List (ℕ × Counter)). in_words lines bus tagger shape key limit made' evidence' xs) (sym used_is)
 
-module _ {B T : Type 0} (d n : T → List ℕ → List ℕ) (history : B → BusHistory) (bus_moved : B → B → Type 0) (bus : B) (tagger : T) (key : List ℕ) (shape : GeometryView) (limit : ℕ)
+module _ {B T : Type 0} (d n : T → List ℕ → List ℕ) (history : B → BusHistory) (bus_moved : B → List Access → B → Type 0) (bus : B) (tagger : T) (key : List ℕ) (shape : GeometryView) (limit : ℕ)
     (booted lines : SealedLinesView B T) (new : AreNew bus tagger key shape limit booted) (moves : Moves history bus_moved (tags_of d n) (IsLineOf booted) booted lines) where
   new_accounted : (history bus).lies ≡ 0 → AccountsForAll (tags_of d n) history booted
   new_accounted honest =
@@ -214,12 +207,7 @@ module _ {B T : Type 0} (d n : T → List ℕ → List ℕ) (history : B → Bus
         few = few;
         apart = λ quiet. subst (λ (k : List ℕ). ShareNoBlock k run.used) (moves.key ∙ new.key_is) (apart (sym evidence_is ∙ quiet));
         accounted = subst (λ (m : SealedLinesView B T). AccountsForAll (tags_of d n) history m) same (moves.accounted (new_accounted honest));
-        accesses = subst (λ (b : B). WritesMessages (history bus) (history b) (length run.made) (unwritten_at run.ending)) (sym bus_is)
-            (subst (λ (b : B). WritesMessages (history b) (history lines.bus) (length run.made) (unwritten_at run.ending)) new.bus_is
-            (all_counted (history booted.bus) (history lines.bus) run.made moves.step.more lines.stopped run.ending moves.accesses
-            (made_is ∙ moves.step.made ∙ ap (λ (made : List Message). made ++ moves.step.more) new.unmade) carries));
         reads = λ place. subst (λ (b : B). RoseBy 0 ((history bus).reads place) ((history b).reads place)) (sym bus_is) (run_reads place);
-        geometry_are = protected.always.consistent.bus_geometry;
         unread = λ quiet level index none.
             ap (λ (b : B). (history b).reads (Node level index)) bus_is
             ∙ unread (sym evidence_is ∙ quiet) level index (ap (last_node level index) (sym made_is) ∙ none)

@@ -1,10 +1,14 @@
 -- What a program came to that ran on protected memory, from how it began and what it hands out.
-use Rattle.std.proofs.Common.{◌≡◌, ◌<◌, ℕ, List, [], ◌++◌, Some, None, refl, sym, ap, ◌∙◌, subst}
-use Rattle.sec_base.specs.Geometry.{line_count}
+use Rattle.std.proofs.Common.{◌≡◌, ◌<◌, ℕ, List, [], ◌++◌, length, map, Some, None, refl, sym, ap, ◌∙◌, subst, arith}
+use Rattle.sec_base.specs.Geometry.{GeometryView, line_count}
+use Rattle.sec_base.specs.Place.{IsPlace}
 use Rattle.sec_base.specs.declared.ending.Ending.{Ending}
 use Rattle.sec_base.specs.declared.message.Message.{Message}
+use Rattle.bus_model.specs.Access.{Access, AreOf}
 use Rattle.bus_model.specs.BusHistory.{BusHistory}
+use Rattle.tag_engine.specs.Tag.{engine_tag}
 use Rattle.tag_engine.specs.TagEngine.{tags_of}
+use Rattle.checked_bus.specs.Makes.{IsShownIn, access_of}
 use Rattle.rv32_core.specs.Machine.{Machine, plain}
 use Rattle.rv32_core.specs.State.{CoreView}
 use Rattle.rv32_run.specs.Execution.{CarriesEnding, FollowsWith}
@@ -12,12 +16,15 @@ use Rattle.rv32_run.specs.ExecutionView.{ExecutionView}
 use Rattle.rv32_run.specs.Progress.{StandsWith}
 use Rattle.counter_cache.specs.Counters.{most_blocks}
 use Rattle.line_cache.specs.LineCache.{most_held}
-use Rattle.page_reencrypt.specs.SealedLines.{IsLineOf, Moves}
+use Rattle.page_reencrypt.specs.SealedLines.{IsLineOf, Moves, geometry}
+use Rattle.page_reencrypt.specs.Stops.{lasting_stop}
 use Rattle.secure_memory.specs.SecureRam.{IsMoved, IsQuiet, SecureRamView, cached_pages, contents, held_lines, stopped}
 use Rattle.secure_memory.specs.Moving.{moved_on}
-use Rattle.chip_run.specs.Run.{RanProtected, Terms}
+use Rattle.checked_bus.proofs.Makes.{same_tags}
+use Rattle.chip_run.specs.Run.{KeepsAccesses, RanProtected, Terms}
 use Rattle.chip_run.specs.Running.{HandsOut, HasRunTo, HasStored, protected_by}
 use Rattle.chip_run.specs.declared.record.RunRecord.{RunRecord}
+use Rattle.chip_run.proofs.Closing.{stopped_tampered, unwritten_most}
 use Rattle.chip_run.proofs.Ends.{OfInstructions, OfMemory, ReadsTurnover, ran_protected}
 use Rattle.chip_run.proofs.Memories.{run_contents, run_memory, run_reads}
 use Rattle.chip_run.proofs.Runs.{ran_instructions}
@@ -29,8 +36,8 @@ unfolding plain
 begins_with start reached n here none =
     sym (ap (λ (machine : Machine). machine.state.memory) here) ∙ ap (λ (k : ℕ). (plain start k).state.memory) none
 
-module _ {B T : Type 0} (d n : T → List ℕ → List ℕ) (history : B → BusHistory) (bus_moved : B → B → Type 0)
-    (bus_moved_on : (a b c : B) → bus_moved a b → bus_moved b c → bus_moved a c) (bus : B) (tagger : T) (terms : Terms) where
+module _ {B T : Type 0} (d n : T → List ℕ → List ℕ) (history : B → BusHistory) (bus_moved : B → List Access → B → Type 0)
+    (bus_moved_on : (a b c : B) (before after : List Access) → bus_moved a before b → bus_moved b after c → bus_moved a (before ++ after) c) (bus : B) (tagger : T) (terms : Terms) where
   -- what a run hands out of a memory in which its program was stored
   pub stored_memory : (lines : List ℕ) (memory last : SecureRamView B T) (closed : B) (run : RunRecord) → (stored : HasStored d n history bus_moved bus tagger terms memory) →
       IsMoved history bus_moved (tags_of d n) stored.booted lines last → HandsOut d n history last closed run → (history bus).lies ≡ 0 →
@@ -48,11 +55,38 @@ module _ {B T : Type 0} (d n : T → List ℕ → List ℕ) (history : B → Bus
       (run_memory d n history bus_moved bus tagger terms.enc_key terms.geometry terms.page_limit stored.booted.lines last.lines stored.new moved.moves
       terms.start terms.budget terms.report closed run honest out.protected out.made_is out.used_is out.few out.apart out.evidence_is out.bus_is carries moved.unread)
 
-  -- its bus
-  pub stored_bus : (memory last : SecureRamView B T) (closed : B) (stored : HasStored d n history bus_moved bus tagger terms memory) →
-      Moves history bus_moved (tags_of d n) (IsLineOf stored.booted.lines) stored.booted.lines last.lines → closed ≡ last.lines.bus → bus_moved bus closed
-  stored_bus memory last closed stored moves is =
-      subst (λ (b : B). bus_moved bus b) (sym is) (subst (λ (b : B). bus_moved b last.lines.bus) stored.new.bus_is moves.bus)
+  -- the tags of its engine are those of the run
+  tags_are : (memory : SecureRamView B T) (stored : HasStored d n history bus_moved bus tagger terms memory) → tags_of d n stored.booted.lines.engine ≡ terms.tag_of
+  tags_are memory stored =
+      ap (λ (t : T). engine_tag (d t) (n t) (geometry stored.booted.lines)) stored.new.tagger_is
+      ∙ ap (λ (g : GeometryView). engine_tag (d tagger) (n tagger) g) stored.new.geometry_is ∙ sym stored.tags
+
+  -- the accesses of its bus, and what the lists say of them
+  pub stored_accesses : (memory last : SecureRamView B T) (closed : B) (run : RunRecord) (stored : HasStored d n history bus_moved bus tagger terms memory) →
+      Moves history bus_moved (tags_of d n) (IsLineOf stored.booted.lines) stored.booted.lines last.lines → HandsOut d n history last closed run →
+      CarriesEnding (stopped last) (Some run.ending) → (accesses : List Access) × bus_moved bus accesses closed × KeepsAccesses terms accesses run
+  stored_accesses memory last closed run stored moves out carries =
+      let new = stored.new in
+      let makes = moves.trace (ap lasting_stop new.going) in
+      let has = makes.has in
+      let accesses : List Access = makes.accesses in (
+        accesses,
+        subst (λ (b : B). bus_moved bus accesses b) (sym out.bus_is) (subst (λ (b : B). bus_moved b accesses last.lines.bus) new.bus_is makes.moved),
+        record {
+          written = has.written;
+          unwritten = has.unwritten;
+          made = out.made_is ∙ has.made ∙ ap (λ (made : List Message). made ++ (has.written ++ has.unwritten)) new.unmade;
+          writes = has.writes ∙ ap (λ (tag_of : Message → List ℕ). map (access_of tag_of) has.written) (tags_are memory stored);
+          few =
+              let most = unwritten_most (stopped last) run.ending carries in
+              let few = has.few in
+              omega (arith, few, most);
+          inside = subst (λ (g : GeometryView). AreOf (IsPlace g) accesses) new.geometry_is has.inside;
+          shown = λ evidence is. subst (λ (made : List Message). IsShownIn (length made) accesses evidence) new.unmade
+              (has.shown evidence new.quiet (sym out.evidence_is ∙ is));
+          tampered = λ place is. has.tampered place (stopped_tampered (stopped last) run.ending place carries is);
+        },
+      )
 
   -- few lines and counter blocks have copies in it, and what stands outside fits them
   stored_booted : (memory : SecureRamView B T) → HasStored d n history bus_moved bus tagger terms memory → IsBooted history bus_moved (tags_of d n) terms.geometry memory
@@ -64,13 +98,13 @@ module _ {B T : Type 0} (d n : T → List ℕ → List ℕ) (history : B → Bus
         fits = stored.stored.fits (λ going quiet. stored.fits);
       }
 
-  module _ {P : Type 0} (core : P → CoreView) (bus_unmoved : (b : B) → bus_moved b b) (printed : List ℕ) (ending : Ending)
+  module _ {P : Type 0} (core : P → CoreView) (bus_unmoved : (b : B) → bus_moved b [] b) (printed : List ℕ) (ending : Ending)
       (now : ExecutionView P (SecureRamView B T)) (closed : B) (run : RunRecord) (went : HasRunTo core d n history bus_moved bus tagger terms printed ending now)
       (out : HandsOut d n history now.memory closed run) (retired_is : run.retired ≡ now.retired) (ending_is : run.ending ≡ ending) where
     -- what the run made of its memory
     pub ran_moved : IsMoved history bus_moved (tags_of d n) went.begun.stored.booted (went.begun.stored.lines ++ went.ended.moved.lines) now.memory
     ran_moved =
-        moved_on history bus_moved (tags_of d n) bus_moved_on went.begun.stored.booted went.first.memory now.memory
+        moved_on history bus_moved (tags_of d n) (same_tags d n) bus_moved_on went.begun.stored.booted went.first.memory now.memory
         went.begun.stored.lines went.ended.moved.lines went.begun.stored.stored went.ended.moved.moved
 
     sound_to_end : run.evidence ≡ None → IsQuiet now.memory
@@ -94,7 +128,7 @@ module _ {B T : Type 0} (d n : T → List ℕ → List ℕ) (history : B → Bus
     turned quiet =
         let sound = sound_to_end quiet in
         let there = begun_there sound in
-        run_turned history bus_moved (tags_of d n) bus_unmoved bus_moved_on terms.geometry went.first.retired now.retired run.retired terms.start bus closed
+        run_turned history bus_moved (tags_of d n) bus_unmoved (same_tags d n) bus_moved_on terms.geometry went.first.retired now.retired run.retired terms.start bus closed
         went.first.memory now.memory went.ended.moved.lines went.ended.moved.moved went.begun.none_retired
         (begins_with terms.start _ went.first.retired there went.begun.none_retired)
         (stored_booted went.first.memory went.begun.stored) sound (went.ended.trail sound terms.start [] there) retired_is
@@ -109,7 +143,7 @@ module _ {B T : Type 0} (d n : T → List ℕ → List ℕ) (history : B → Bus
         went.begun.stored.new ran_moved.moves run now.memory.ways out.made_is)
         out.few_held went.ended.within went.ended.budget_used went.ended.early follows turned
 
-    carries : CarriesEnding (stopped now.memory) (Some run.ending)
+    pub carries : CarriesEnding (stopped now.memory) (Some run.ending)
     carries = subst (λ (e : Ending). CarriesEnding (stopped now.memory) (Some e)) (sym ending_is) went.ended.carries
 
     pub ran : (history bus).lies ≡ 0 → RanProtected (λ line. line < line_count terms.geometry) terms printed (history bus) (history closed) run

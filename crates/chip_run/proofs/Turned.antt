@@ -1,5 +1,5 @@
 -- What a run read from the places of the lines, and of the pages' counter blocks.
-use Rattle.std.proofs.Common.{◌≡◌, inl, inr, ◌+◌, ◌*◌, ◌<◌, ◌≤◌, ◌⊎◌, ℕ, List, [], true, false, take, map, length, length-append, Option, None, refl, sym, ap, ◌∙◌, subst, arith}
+use Rattle.std.proofs.Common.{◌≡◌, inl, inr, ◌+◌, ◌*◌, ◌<◌, ◌≤◌, ◌⊎◌, ◌++◌, ℕ, List, [], true, false, take, map, length, length-append, Option, None, refl, sym, ap, ◌∙◌, subst, arith}
 use Rattle.std.specs.Prelude.{not, nat_eq, Contains}
 use Rattle.std.specs.List.{list_any}
 use Rattle.std.specs.Option.{option_map}
@@ -17,6 +17,7 @@ use Rattle.sec_base.specs.Lines.{line_at}
 use Rattle.sec_base.proofs.Gains.{gain_none, gain_on}
 use Rattle.sec_base.proofs.JoinedLines.{line_at-joined_lines}
 use Rattle.sec_base.proofs.Results.{was_none}
+use Rattle.bus_model.specs.Access.{Access}
 use Rattle.bus_model.specs.BusHistory.{BusHistory}
 use Rattle.tag_engine.specs.TagEngine.{TagEngineView}
 use Rattle.rv32_core.specs.Machine.{Machine}
@@ -79,7 +80,7 @@ few_pages memory few few_blocks =
     omega (arith, few, few_blocks, length-append (map page_of (held_lines memory)) (cached_pages memory), length-map {A = ℕ} {B = ℕ})
 
 -- an old line was held, or was read
-old_was_had : {B T : Type 0} (history : B → BusHistory) (bus_moved : B → B → Type 0) (tags : TagEngineView T → Message → List ℕ) (old new : SecureRamView B T) (lines : List ℕ) (line : ℕ) →
+old_was_had : {B T : Type 0} (history : B → BusHistory) (bus_moved : B → List Access → B → Type 0) (tags : TagEngineView T → Message → List ℕ) (old new : SecureRamView B T) (lines : List ℕ) (line : ℕ) →
     IsMoved history bus_moved tags old lines new → stopped new ≡ None → IsQuiet new → Contains lines line → is_old (contents old) line ≡ true →
     Contains (held_lines old) line ⊎ Rose ((history old.lines.bus).reads (line_place line)) ((history new.lines.bus).reads (line_place line))
 old_was_had history bus_moved tags old new lines line moved going quiet listed is =
@@ -125,7 +126,7 @@ unmade_is_blank tag_of history memory line fits inside never away =
     (last_none (lines_of memory) (made memory) (used memory) line fits.paired inside ((fits.fresh line).0 unwritten))
 
 -- of the page of an old line something was on the chip, or its counter block was read
-page_was_had : {B T : Type 0} (history : B → BusHistory) (bus_moved : B → B → Type 0) (tags : TagEngineView T → Message → List ℕ) (old new : SecureRamView B T) (lines : List ℕ) (line : ℕ) →
+page_was_had : {B T : Type 0} (history : B → BusHistory) (bus_moved : B → List Access → B → Type 0) (tags : TagEngineView T → Message → List ℕ) (old new : SecureRamView B T) (lines : List ℕ) (line : ℕ) →
     IsMoved history bus_moved tags old lines new → FitsUnlessStopped history bus_moved tags old.lines → stopped new ≡ None → IsQuiet new → Contains lines line → is_old (contents old) line ≡ true →
     Contains (pages_on_chip old) (page_of line) ⊎ Rose ((history old.lines.bus).reads (Node 0 (page_of line))) ((history new.lines.bus).reads (Node 0 (page_of line)))
 page_was_had history bus_moved tags old new lines line moved fits going quiet listed is =
@@ -146,7 +147,7 @@ page_was_had history bus_moved tags old new lines line moved fits going quiet li
     ]
 
 -- it has this geometry, few lines and few counter blocks have copies, and what stands outside fits what the chip has of it
-pub record IsBooted {B T : Type 0} (history : B → BusHistory) (bus_moved : B → B → Type 0) (tags : TagEngineView T → Message → List ℕ) (shape : GeometryView)
+pub record IsBooted {B T : Type 0} (history : B → BusHistory) (bus_moved : B → List Access → B → Type 0) (tags : TagEngineView T → Message → List ℕ) (shape : GeometryView)
     (memory : SecureRamView B T) : Type 0 where
   pub geometry_are : geometry memory.lines ≡ shape
   pub few : length (held_lines memory) ≤ most_held
@@ -158,8 +159,10 @@ page_inside shape memory line fits old =
     let inside = subst (λ (n : GeometryView). line < line_count n) fits (old_is_inside (line_contents memory.lines) (lines_of memory) memory.ways line old) in
     omega (arith, inside)
 
-module _ {B T : Type 0} (history : B → BusHistory) (bus_moved : B → B → Type 0) (tags : TagEngineView T → Message → List ℕ)
-    (bus_unmoved : (bus : B) → bus_moved bus bus) (bus_moved_on : (a b c : B) → bus_moved a b → bus_moved b c → bus_moved a c) (shape : GeometryView) where
+module _ {B T : Type 0} (history : B → BusHistory) (bus_moved : B → List Access → B → Type 0) (tags : TagEngineView T → Message → List ℕ)
+    (bus_unmoved : (bus : B) → bus_moved bus [] bus)
+    (tags_stay : (engine engine' : TagEngineView T) → engine'.geometry ≡ engine.geometry → engine'.tagger ≡ engine.tagger → tags engine' ≡ tags engine)
+    (bus_moved_on : (a b c : B) (before after : List Access) → bus_moved a before b → bus_moved b after c → bus_moved a (before ++ after) c) (shape : GeometryView) where
   still_booted : (a b : SecureRamView B T) (lines : List ℕ) → IsMoved history bus_moved tags a lines b → IsBooted history bus_moved tags shape a → IsBooted history bus_moved tags shape b
   still_booted a b lines moved booted = record {
     geometry_are = moved.moves.step.geometry ∙ booted.geometry_are;
@@ -183,7 +186,7 @@ module _ {B T : Type 0} (history : B → BusHistory) (bus_moved : B → B → Ty
     places = line_count shape;
     bound = 129;
     unmoved = λ m. unmoved history bus_moved tags bus_unmoved m;
-    moved_on = λ a b c xs ys first second. moved_on history bus_moved tags bus_moved_on a b c xs ys first second;
+    moved_on = λ a b c xs ys first second. moved_on history bus_moved tags tags_stay bus_moved_on a b c xs ys first second;
     sooner = λ a b xs moved quiet. was_none a.lines.engine.evidence b.lines.engine.evidence moved.moves.step.evidence quiet;
     later = λ a b xs moved fits. still_booted a b xs moved fits;
     rises = λ a b xs moved line. moved.moves.step.reads (line_place line);
@@ -207,7 +210,7 @@ module _ {B T : Type 0} (history : B → BusHistory) (bus_moved : B → B → Ty
     places = page_count shape;
     bound = 161;
     unmoved = λ m. unmoved history bus_moved tags bus_unmoved m;
-    moved_on = λ a b c xs ys first second. moved_on history bus_moved tags bus_moved_on a b c xs ys first second;
+    moved_on = λ a b c xs ys first second. moved_on history bus_moved tags tags_stay bus_moved_on a b c xs ys first second;
     sooner = λ a b xs moved quiet. was_none a.lines.engine.evidence b.lines.engine.evidence moved.moves.step.evidence quiet;
     later = λ a b xs moved fits. still_booted a b xs moved fits;
     rises = λ a b xs moved page. moved.moves.step.reads (Node 0 page);

@@ -1,5 +1,5 @@
 -- What a run on protected memory comes to.
-use Rattle.std.specs.Prelude.{◌≡◌, ◌≢◌, ◌+◌, ◌-◌, ◌^◌, ◌<◌, ◌≤◌, ◌↔◌, ◌⊎◌, ℕ, List, None, IfSome, length, Contains}
+use Rattle.std.specs.Prelude.{◌≡◌, ◌≢◌, ◌+◌, ◌-◌, ◌^◌, ◌<◌, ◌≤◌, ◌↔◌, ◌⊎◌, ◌++◌, ℕ, List, None, Some, IfSome, length, map, Contains}
 use Rattle.sha2.specs.Sha256.{sha256}
 use Rattle.sec_base.specs.declared.counter.Counter.{Counter}
 use Rattle.sec_base.specs.declared.ending.Ending.{Ending}
@@ -9,13 +9,14 @@ use Rattle.sec_base.specs.declared.image.Image.{Image}
 use Rattle.sec_base.specs.declared.message.Message.{Message}
 use Rattle.sec_base.specs.declared.place.Place.{Place}
 use Rattle.sec_base.specs.declared.place.Place.TheVariants.{Line, Node}
-use Rattle.sec_base.specs.Count.{RoseBy}
 use Rattle.sec_base.specs.Evidence.{IsEvidence}
 use Rattle.sec_base.specs.Gain.{Gain}
 use Rattle.sec_base.specs.Geometry.{GeometryView, line_count, page_count}
 use Rattle.sec_base.specs.LastMessage.{data_pairs}
 use Rattle.sec_base.specs.Lines.{line_at}
+use Rattle.sec_base.specs.Place.{IsPlace}
 use Rattle.sec_base.specs.Sink.{SinkState}
+use Rattle.bus_model.specs.Access.{Access, AreOf, EndsWithRead, writes_in}
 use Rattle.bus_model.specs.BusHistory.{BusHistory}
 use Rattle.bus_model.specs.FirstLie.{HonestOrCaught, IsOfFirstLie}
 use Rattle.pad_stream.specs.PadBlocks.{ShareNoBlock}
@@ -26,7 +27,7 @@ use Rattle.rv32_core.specs.Turnover.{page_turnover, turnover}
 use Rattle.rv32_run.specs.Execution.{IsMemoryEnding, IsStop}
 use Rattle.rv32_run.specs.Progress.{SinkEnds}
 use Rattle.elf_load.specs.Measurement.{measurement_of}
-use Rattle.checked_bus.specs.Accesses.{WritesMessages}
+use Rattle.checked_bus.specs.Makes.{IsShownIn, access_of}
 use Rattle.bonsai_tree.specs.Tree.{NodesAreMade, NodesHoldLast, UnmadeAreUnread}
 use Rattle.page_reencrypt.specs.Contents.{ArePaged, AreUnskipped, AreWithin, HoldsLast, HoldsSealed, IsSpent, NodesSay, line_bytes}
 use Rattle.chip_run.specs.Report.{ReportTerms, signed_report}
@@ -93,9 +94,8 @@ pub record KeepsBudget (terms : Terms) (run : RunRecord) : Type 0 where
   -- the memory and the sink end it only where the budget allows one more instruction, or none at all
   pub early : IsStop run.ending → 0 < terms.budget → run.retired < terms.budget
 
--- Refused: messages that are missing, made up or not written, and a bus that isn't the run's. The lines that the run may
--- encrypt are those that are allowed.
-pub record KeepsLists (allowed : ℕ → Type 0) (terms : Terms) (before after : BusHistory) (run : RunRecord) : Type 0 where
+-- Refused: messages that are missing, made up or not written. The lines that the run may encrypt are those that are allowed.
+pub record KeepsLists (allowed : ℕ → Type 0) (terms : Terms) (after : BusHistory) (run : RunRecord) : Type 0 where
   -- each entry of `used` is of an allowed line, and each line of the memory was tagged under the counters that it was
   -- encrypted under, in the same order
   pub inside : (line : ℕ) (counter : Counter) → Contains run.used (line, counter) → allowed line
@@ -107,11 +107,24 @@ pub record KeepsLists (allowed : ℕ → Type 0) (terms : Terms) (before after :
   pub nodes : NodesAreMade terms.geometry run.made after.written
   pub holds_last : run.ending ≢ NoMemory → HoldsLast terms.tag_of (line_count terms.geometry) run.made after.written
   pub nodes_hold_last : run.ending ≢ NoMemory → NodesHoldLast terms.geometry run.made after.written
-  -- there were as many accesses as reads and messages, but for one message where the run ended out of memory, as far as
-  -- counts that stand still at their ends can tell; no count of reads fell, and the bus fits the memory
-  pub accesses : WritesMessages before after (length run.made) (unwritten_at run.ending)
-  pub reads : (place : Place) → RoseBy 0 (before.reads place) (after.reads place)
-  pub geometry_are : after.geometry ≡ terms.geometry
+
+-- Refused: a list of messages that is not what was written to the bus, one by one. The accesses are all that the run made of its
+-- bus, in order.
+pub record KeepsAccesses (terms : Terms) (accesses : List Access) (run : RunRecord) : Type 0 where
+  -- each write puts out one message, in order: a line's ciphertext with its tag, or a node's block, whose tag goes into its
+  -- parent; where the run ended out of memory, the last message may not have been written
+  pub written : List Message
+  pub unwritten : List Message
+  pub made : run.made ≡ written ++ unwritten
+  pub writes : writes_in accesses ≡ map (access_of terms.tag_of) written
+  pub few : length unwritten ≤ unwritten_at run.ending
+  -- each is of a place of its memory
+  pub inside : AreOf (IsPlace terms.geometry) accesses
+  -- evidence is of an answer among them: a forgery's count is the number of writes before it, and a collision is with a block
+  -- that was written before it
+  pub shown : (evidence : Evidence) → run.evidence ≡ Some evidence → IsShownIn 0 accesses evidence
+  -- a run that ended as tampering read that place last, also where there is evidence
+  pub tampered : (place : Place) → run.ending ≡ Tampered place → EndsWithRead place accesses
 
 -- the endings that come of the sink or of the emulator
 abbrev pub IsCutOff : Ending → Type 0
@@ -193,7 +206,7 @@ pub record HoldsWithoutEvidence (terms : Terms) (printed : List ℕ) (before aft
 pub record RanProtected (allowed : ℕ → Type 0) (terms : Terms) (printed : List ℕ) (before after : BusHistory) (run : RunRecord)
     : Type 0 where
   pub budget : KeepsBudget terms run
-  pub lists : KeepsLists allowed terms before after run
+  pub lists : KeepsLists allowed terms after run
   pub without_evidence : run.evidence ≡ None → HoldsWithoutEvidence terms printed before after run
   pub with_evidence : IfSome run.evidence (ShowsEvidence terms after run)
 

@@ -2,6 +2,7 @@
 -- functions and proofs alone cite it.
 use Rattle.std.specs.Prelude.{◌≡◌, ◌*◌, ◌^◌, ◌<◌, ◌≤◌, ℕ, List, [], length}
 use Rattle.sec_base.specs.declared.ending.Ending.{Ending}
+use Rattle.bus_model.specs.Access.{Access}
 use Rattle.bus_model.specs.BusHistory.{BusHistory}
 use Rattle.tag_engine.specs.Tag.{engine_tag}
 use Rattle.tag_engine.specs.TagEngine.{tags_of}
@@ -16,13 +17,13 @@ use Rattle.chip_run.specs.declared.record.RunRecord.{RunRecord}
 
 -- what a memory of messages with these tags means, over buses with these histories
 abbrev pub protected_by : {P B T : Type 0} → (P → CoreView) → (T → List ℕ → List ℕ) → (T → List ℕ → List ℕ) → (B → BusHistory)
-    → (B → B → Type 0) → Semantics P (SecureRamView B T)
+    → (B → List Access → B → Type 0) → Semantics P (SecureRamView B T)
 protected_by core data_tag node_tag history bus_moved =
     semantics_of core (λ memory. contents memory) (λ memory. 64 * lines_of memory) (λ memory. IsQuiet memory) (λ memory. stopped memory)
     (λ before lines after. IsMoved history bus_moved (tags_of data_tag node_tag) before lines after)
 
 -- A memory was booted over a new bus, with the tags of the run, and stores to these lines were made.
-pub record HasStored {B T : Type 0} (data_tag node_tag : T → List ℕ → List ℕ) (history : B → BusHistory) (bus_moved : B → B → Type 0)
+pub record HasStored {B T : Type 0} (data_tag node_tag : T → List ℕ → List ℕ) (history : B → BusHistory) (bus_moved : B → List Access → B → Type 0)
     (bus : B) (tagger : T) (terms : Terms) (memory : SecureRamView B T) : Type 0 where
   pub tags : terms.tag_of ≡ engine_tag (data_tag tagger) (node_tag tagger) terms.geometry
   pub booted : SecureRamView B T
@@ -35,7 +36,7 @@ pub record HasStored {B T : Type 0} (data_tag node_tag : T → List ℕ → List
 
 -- A program stands in such a memory before its first instruction, where the plain machine begins.
 pub record HasBegun {P B T : Type 0} (core : P → CoreView) (data_tag node_tag : T → List ℕ → List ℕ) (history : B → BusHistory)
-    (bus_moved : B → B → Type 0) (bus : B) (tagger : T) (terms : Terms) (first : ExecutionView P (SecureRamView B T)) : Type 0 where
+    (bus_moved : B → List Access → B → Type 0) (bus : B) (tagger : T) (terms : Terms) (first : ExecutionView P (SecureRamView B T)) : Type 0 where
   pub stored : HasStored data_tag node_tag history bus_moved bus tagger terms first.memory
   pub stands : IsQuiet first.memory → StandsWith (protected_by core data_tag node_tag history bus_moved) terms.start first []
   pub none_retired : first.retired ≡ 0
@@ -43,7 +44,7 @@ pub record HasBegun {P B T : Type 0} (core : P → CoreView) (data_tag node_tag 
 
 -- It began so, its turns printed these bytes since, and it goes along.
 pub record HasRun {P B T : Type 0} (core : P → CoreView) (data_tag node_tag : T → List ℕ → List ℕ) (history : B → BusHistory)
-    (bus_moved : B → B → Type 0) (bus : B) (tagger : T) (terms : Terms) (printed : List ℕ) (now : ExecutionView P (SecureRamView B T))
+    (bus_moved : B → List Access → B → Type 0) (bus : B) (tagger : T) (terms : Terms) (printed : List ℕ) (now : ExecutionView P (SecureRamView B T))
     : Type 0 where
   pub first : ExecutionView P (SecureRamView B T)
   pub begun : HasBegun core data_tag node_tag history bus_moved bus tagger terms first
@@ -51,7 +52,7 @@ pub record HasRun {P B T : Type 0} (core : P → CoreView) (data_tag node_tag : 
 
 -- It began so, its turns printed these bytes since, and the last one ended it so.
 pub record HasRunTo {P B T : Type 0} (core : P → CoreView) (data_tag node_tag : T → List ℕ → List ℕ) (history : B → BusHistory)
-    (bus_moved : B → B → Type 0) (bus : B) (tagger : T) (terms : Terms) (printed : List ℕ) (ending : Ending)
+    (bus_moved : B → List Access → B → Type 0) (bus : B) (tagger : T) (terms : Terms) (printed : List ℕ) (ending : Ending)
     (now : ExecutionView P (SecureRamView B T)) : Type 0 where
   pub first : ExecutionView P (SecureRamView B T)
   pub begun : HasBegun core data_tag node_tag history bus_moved bus tagger terms first

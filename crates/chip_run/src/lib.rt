@@ -1,12 +1,12 @@
 //! A run of a program on the chip, over any bus to the memory outside it and any sink.
 #![tactic(auto)]
 
-ghost use Rattle.std.specs.Prelude.{◌≡◌};
+ghost use Rattle.std.specs.Prelude.{◌≡◌, List};
 ghost use Rattle.sec_base.specs.Geometry.{memory_size};
-ghost use Rattle.bus_model.specs.Access.{Reaches};
+ghost use Rattle.bus_model.specs.Access.{Access};
 ghost use Rattle.bus_model.specs.BusHistory.{NothingWritten};
 ghost use Rattle.tag_engine.specs.Tag.{engine_tag};
-ghost use Rattle.chip_run.specs.Run.{RunsProtected, run_terms};
+ghost use Rattle.chip_run.specs.Run.{KeepsAccesses, RunsProtected, run_terms};
 
 mod close;
 mod record;
@@ -46,8 +46,10 @@ pub fn run<B: Bus, T: Tagger, S: Sink>(
         (engine_tag (T.data_tag_of tagger) (T.node_tag_of tagger) setup.now.geometry))
         (S.state out.old) (S.state out.new) (B.history bus) (B.history result.1) result.0 }
 
-    // The bus is what calls made of the one that was given.
-    ensures bus { Reaches B.moved bus result.1 }
+    // Some accesses led from the bus that was given to the one handed back; their writes are the run's messages, one by one.
+    ensures accesses { (accesses : List Access) × B.moved bus accesses result.1
+        × KeepsAccesses (run_terms image.now input.now setup.now
+        (engine_tag (T.data_tag_of tagger) (T.node_tag_of tagger) setup.now.geometry)) accesses result.0 }
 {
     let mut running = match Running::boot(alloc, image, input, setup, tagger, bus) {
         Ok(running) => running,

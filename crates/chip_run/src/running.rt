@@ -4,7 +4,6 @@ ghost use Rattle.sha2.specs.Hashers.{Holds256};
 ghost use Rattle.sha2.specs.Sha256.{sha256};
 ghost use Rattle.sec_base.specs.Geometry.{memory_size};
 ghost use Rattle.sec_base.specs.declared.stop.MemStop.{MemStop};
-ghost use Rattle.bus_model.specs.Access.{Reaches};
 ghost use Rattle.bus_model.specs.BusHistory.{NothingWritten};
 ghost use Rattle.tag_engine.specs.Tag.{engine_tag};
 ghost use Rattle.elf_load.specs.Measurement.{measurement_of};
@@ -50,14 +49,14 @@ impl<'a, B: Bus, T: Tagger> Running<'a, Core, B, T> {
         requires size { image.now.size ≡ memory_size setup.now.geometry }
         requires geometry { (B.history bus).geometry ≡ setup.now.geometry }
         requires nothing_written { NothingWritten (B.history bus) }
-        ensures begun { IfOk result (λ running. HasRun (λ core. core) T.data_tag_of T.node_tag_of B.history (Reaches B.moved) bus tagger
+        ensures begun { IfOk result (λ running. HasRun (λ core. core) T.data_tag_of T.node_tag_of B.history B.moved bus tagger
             (run_terms image.now input.now setup.now (engine_tag (T.data_tag_of tagger) (T.node_tag_of tagger) setup.now.geometry))
             [] running.execution) }
         ensures nothing_taken { IfOk result (λ running. Holds256 running.execution.calls.digest []) }
         ensures no_memory { (left : B) → result ≡ Err (NoMemory left) →
             left ≡ bus }
         ensures stopped { (memory : SecureRamView B T) (stop : MemStop) → result ≡ Err (Stopped memory stop) →
-            HasStored T.data_tag_of T.node_tag_of B.history (Reaches B.moved) bus tagger
+            HasStored T.data_tag_of T.node_tag_of B.history B.moved bus tagger
             (run_terms image.now input.now setup.now (engine_tag (T.data_tag_of tagger) (T.node_tag_of tagger) setup.now.geometry))
             memory × (stopped memory ≡ Some stop) }
     {

@@ -15,3 +15,11 @@ returns-clause-ran c =
     let steps : c.default_run-default.result.execution.steps ≡ 10000000 = ap (λ (run : RunAsked). run.execution.steps) settings in
     let terms : c.default_run-default.result.terms ≡ default_terms = ap (λ (run : RunAsked). run.terms) settings in
     rw (four, steps, terms) at c.run_on_device.ensures.ran
+
+pub returns-clause-accesses : goal.returns-clause-accesses
+returns-clause-accesses c =
+    let settings = c.default_run-default.ensures.settings in
+    let four : c.default_run-default.result.execution.file.geometry ≡ one 4 = ap (λ (run : RunAsked). run.execution.file.geometry) settings in
+    let steps : c.default_run-default.result.execution.steps ≡ 10000000 = ap (λ (run : RunAsked). run.execution.steps) settings in
+    let terms : c.default_run-default.result.terms ≡ default_terms = ap (λ (run : RunAsked). run.terms) settings in
+    rw (four, steps, terms) at c.run_on_device.ensures.accesses

@@ -1,11 +1,11 @@
 use Rattle.std.proofs.Common.{◌≡◌, refl, sym, ap, ◌∙◌, subst, arith}
-use Rattle.bus_model.specs.Access.{Reaches, reaches_none, reaches_on}
 use Rattle.rv32_run.proofs.Progress.{goes_not}
 use Rattle.rv32_run.proofs.Runs.{opening_begins}
 use Rattle.secure_memory.specs.Moving.{moved_on, unmoved}
 use Rattle.secure_memory.specs.SecureRam.{IsQuiet, SecureRamView, contents, stopped}
 use Rattle.tag_engine.specs.Tag.{engine_tag}
 use Rattle.tag_engine.specs.TagEngine.{tags_of}
+use Rattle.checked_bus.proofs.Makes.{same_tags}
 use Rattle.chip_run.specs.Run.{Terms, run_terms}
 use Rattle.chip_run.specs.Running.{HasStored, protected_by}
 use Rattle.chip_run.proofs.Runs.{opening_zeros}
@@ -27,12 +27,12 @@ returns-in-Ok-store_image-clause-begun g c =
     let began = c.new.ensures in
     let terms : Terms = run_terms image c.args.input.now c.args.setup.now (engine_tag (g.T.Tagger.data_tag_of c.args.tagger) (g.T.Tagger.node_tag_of c.args.tagger) c.args.setup.now.geometry) in
     let tags = tags_of g.T.Tagger.data_tag_of g.T.Tagger.node_tag_of in
-    let means = protected_by (λ core. core) g.T.Tagger.data_tag_of g.T.Tagger.node_tag_of g.B.Bus.history (Reaches g.B.Bus.moved) in
+    let means = protected_by (λ core. core) g.T.Tagger.data_tag_of g.T.Tagger.node_tag_of g.B.Bus.history g.B.Bus.moved in
     record {
       first = execution;
       begun = record {
         stored = subst (λ (memory : SecureRamView g.row.B.Denot g.row.T.Denot).
-            HasStored g.T.Tagger.data_tag_of g.T.Tagger.node_tag_of g.B.Bus.history (Reaches g.B.Bus.moved) c.args.bus c.args.tagger terms memory) (sym began.memory) (record {
+            HasStored g.T.Tagger.data_tag_of g.T.Tagger.node_tag_of g.B.Bus.history g.B.Bus.moved c.args.bus c.args.tagger terms memory) (sym began.memory) (record {
               tags = refl;
               booted = c.in-Ok.memory;
               new = booted.new;
@@ -49,8 +49,8 @@ returns-in-Ok-store_image-clause-begun g c =
         none_retired = began.retired;
         budget = began.budget;
       };
-      goes = goes_not means (λ m. unmoved g.B.Bus.history (Reaches g.B.Bus.moved) tags (reaches_none g.B.Bus.moved g.met.B.Bus.unmoved) m)
-          (λ a b c xs ys first second. moved_on g.B.Bus.history (Reaches g.B.Bus.moved) tags (reaches_on g.B.Bus.moved g.met.B.Bus.moved_on) a b c xs ys first second) execution
+      goes = goes_not means (λ m. unmoved g.B.Bus.history g.B.Bus.moved tags g.met.B.Bus.unmoved m)
+          (λ a b c xs ys first second. moved_on g.B.Bus.history g.B.Bus.moved tags (same_tags g.T.Tagger.data_tag_of g.T.Tagger.node_tag_of) g.met.B.Bus.moved_on a b c xs ys first second) execution
           (omega (arith, began.retired)) (ap (λ memory. stopped memory) began.memory ∙ storing.goes_on);
     }
 
