@@ -268,7 +268,7 @@ def drawings(page):
 RECORD = re.compile(r"^pub record (\w+)")
 OWN_FIELD = re.compile(r"^  pub (\w+) :")
 # The groups of the theorem, whose fields THEOREM has rows of; and the field of RunsProtected that holds them, and what was printed.
-EXPLAINED = ["KeepsBudget", "KeepsLists", "FollowsPlain", "KeepsPads", "CatchesLies", "TurnsOver", "ShowsEvidence"]
+EXPLAINED = ["KeepsBudget", "KeepsLists", "KeepsAccesses", "FollowsPlain", "KeepsPads", "CatchesLies", "TurnsOver", "ShowsEvidence"]
 HEADS = {"printed", "ran"}
 
 
