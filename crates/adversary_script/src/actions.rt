@@ -71,7 +71,8 @@ fn flip_action(words: &mut Words, geometry: Geometry) -> Result<Action, ScriptFa
 fn span(words: &mut Words, geometry: Geometry) -> Result<(Place, u8, PlaceBytes), ScriptFault>
     ensures value { with_left result words.new ≡ spec.span geometry words.old }
     ensures inside { IfOk result (λ span. IsPlace geometry span.0) }
-    ensures fits { IfOk result (λ span. span.1 + length span.2.items ≤ stored_size geometry span.0) }
+    ensures fits { IfOk result (λ span. span.1 + length span.2.items
+        ≤ stored_size geometry span.0) }
 {
     let place = place(words, geometry)?;
     let offset = number_below(words, 1 << 32)? as usize;

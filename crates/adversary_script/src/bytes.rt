@@ -39,8 +39,10 @@ pub fn bytes_of_len(words: &mut Words, len: usize) -> Result<PlaceBytes, ScriptF
 // The bytes that digits write, one at least, for which there is room.
 fn fitting_bytes(digits: &[u8], room: usize) -> Option<PlaceBytes>
     requires { room ≤ 80 }
-    ensures value { result ≡ option_map as_array (option_and_then (fitting room) (hex_bytes digits.now)) }
-    ensures inside { IfSome result (λ bytes. (0 < length bytes.items) × (length bytes.items ≤ room)) }
+    ensures value { result
+        ≡ option_map as_array (option_and_then (fitting room) (hex_bytes digits.now)) }
+    ensures inside { IfSome result (λ bytes. (0 < length bytes.items)
+        × (length bytes.items ≤ room)) }
 {
     if digits.is_empty() || digits.len() > 2 * room {
         return None;

@@ -38,7 +38,9 @@ fn inv_products(byte: u8) -> [u8; 4]
 /// A column through INVMIXCOLUMNS (5.3.3).
 #[inline(always)]
 fn unmixed_column(column: u32) -> u32
-    ensures { (r : ℕ) → r < 4 → byte r result ≡ row_times inv_mix_row r (byte 0 column) (byte 1 column) (byte 2 column) (byte 3 column) }
+    ensures { (r : ℕ) → r < 4 →
+        byte r result ≡ row_times inv_mix_row r (byte 0 column) (byte 1 column) (byte 2 column)
+        (byte 3 column) }
 {
     let a = inv_products(row_byte(column, 0));
     let b = inv_products(row_byte(column, 1));
@@ -68,7 +70,8 @@ fn unboxed_column(a: u32, b: u32, c: u32, d: u32, key: u32) -> u32
 #[inline(always)]
 fn unboxed(state: &[u32; 4], words: &[u32; 44], round: usize) -> [u32; 4]
     requires { round < 11 }
-    ensures { columns_state result ≡ add_round_key words.now round (inv_sub_bytes (inv_shift_rows (columns_state state.now))) }
+    ensures { columns_state result
+        ≡ add_round_key words.now round (inv_sub_bytes (inv_shift_rows (columns_state state.now))) }
 {
     let (a, b, c, d) = (state[0], state[1], state[2], state[3]);
     let first = 4 * round;
@@ -96,7 +99,9 @@ fn unmixed(state: &[u32; 4]) -> [u32; 4]
 /// The state before a round with the matrix, and before SUBBYTES and SHIFTROWS after it (5.3).
 fn before_round(state: &[u32; 4], words: &[u32; 44], round: usize) -> [u32; 4]
     requires { round < 11 }
-    ensures { columns_state result ≡ inv_mix_columns (add_round_key words.now round (inv_sub_bytes (inv_shift_rows (columns_state state.now)))) }
+    ensures { columns_state result
+        ≡ inv_mix_columns (add_round_key words.now round
+        (inv_sub_bytes (inv_shift_rows (columns_state state.now)))) }
 {
     unmixed(&unboxed(state, words, round))
 }

@@ -44,7 +44,8 @@ impl Key {
     pub fn encrypt(&self, block: &[u8; 16]) -> [u8; 16]
         ensures value { result ≡ encrypted self.now block.now }
         ensures undone { decrypted self.now result ≡ block.now }
-        ensures distinct { (other : List ℕ) → IsBlock other → encrypted self.now other ≡ result → other ≡ block.now }
+        ensures distinct { (other : List ℕ) → IsBlock other → encrypted self.now other ≡ result →
+            other ≡ block.now }
     {
         rounds::cipher_block(&self.words, block)
     }

@@ -66,7 +66,9 @@ pub(crate) fn add_key(state: &[u32; 4], words: &[u32; 44], round: usize) -> [u32
 #[inline(always)]
 fn after_round(state: &[u32; 4], words: &[u32; 44], round: usize) -> [u32; 4]
     requires { round < 11 }
-    ensures { columns_state result ≡ add_round_key words.now round (mix_columns (shift_rows (sub_bytes (columns_state state.now)))) }
+    ensures { columns_state result
+        ≡ add_round_key words.now round
+        (mix_columns (shift_rows (sub_bytes (columns_state state.now)))) }
 {
     let (a, b, c, d) = (state[0], state[1], state[2], state[3]);
     let first = 4 * round;
@@ -81,7 +83,8 @@ fn after_round(state: &[u32; 4], words: &[u32; 44], round: usize) -> [u32; 4]
 /// The last round, which has no matrix (5.1).
 #[inline(always)]
 fn after_last_round(state: &[u32; 4], words: &[u32; 44]) -> [u32; 4]
-    ensures { columns_state result ≡ add_round_key words.now 10 (shift_rows (sub_bytes (columns_state state.now))) }
+    ensures { columns_state result
+        ≡ add_round_key words.now 10 (shift_rows (sub_bytes (columns_state state.now))) }
 {
     let (a, b, c, d) = (state[0], state[1], state[2], state[3]);
     [

@@ -26,9 +26,11 @@ const DIGITS2_LEN: usize = 2 * REPORT2_LEN;
 /// that holds. A report of version 1 names no layout.
 pub fn verify(text: &[u8], key: &[u8; 32]) -> Result<Signed, ReportError>
     ensures made { IfOk result (λ signed.
-        IsReport signed.report × IsTextOf (bytes_by_version signed.report signed.layout key.now) text.now) }
+        IsReport signed.report
+        × IsTextOf (bytes_by_version signed.report signed.layout key.now) text.now) }
     ensures taken { (signed : Signed) → IsReport signed.report →
-        IsTextOf (bytes_by_version signed.report signed.layout key.now) text.now → result ≡ Ok signed }
+        IsTextOf (bytes_by_version signed.report signed.layout key.now) text.now →
+        result ≡ Ok signed }
     ensures refused { result_err result ≡ first_refusal text.now key.now }
 {
     let digits = without_line_feed(text);
@@ -43,7 +45,8 @@ pub fn verify(text: &[u8], key: &[u8; 32]) -> Result<Signed, ReportError>
 fn signed_in(bytes: &[u8], key: &[u8; 32]) -> Result<Signed, ReportError>
     requires { (length bytes.now ≡ REPORT_LEN) ⊎ (length bytes.now ≡ REPORT2_LEN) }
     ensures made { IfOk result (λ signed.
-        IsReport signed.report × (bytes.now ≡ bytes_by_version signed.report signed.layout key.now)) }
+        IsReport signed.report
+        × (bytes.now ≡ bytes_by_version signed.report signed.layout key.now)) }
     ensures refused { result_err result ≡ bytes_refusal bytes.now key.now }
 {
     let layout = layout_in(bytes)?;
@@ -59,7 +62,8 @@ fn signed_in(bytes: &[u8], key: &[u8; 32]) -> Result<Signed, ReportError>
 fn layout_in(bytes: &[u8]) -> Result<Option<Layout>, ReportError>
     requires { (length bytes.now ≡ REPORT_LEN) ⊎ (length bytes.now ≡ REPORT2_LEN) }
     ensures named { IfOk result (λ layout.
-        bytes.now ≡ head_bytes layout ++ drop (length bytes.now - (FIELDS_LEN + TAG_LEN)) bytes.now) }
+        bytes.now ≡ head_bytes layout ++ drop (length bytes.now - (FIELDS_LEN + TAG_LEN))
+        bytes.now) }
     ensures refused { result_err result ≡ (if has_version bytes.now then None else Some Version) }
 {
     match (bytes.len(), bytes[0], bytes[1]) {

@@ -58,7 +58,8 @@ impl NodeCache {
         ensures held { IsTrue result ↔ IsSome (node_way self.old.caches level index) }
         ensures latest { IsTrue result → IsLatestNode self.new.caches level index }
         ensures absent { result ≡ false → node_way self.old.caches level index ≡ None }
-        ensures same { (other at : ℕ) → node_way self.new.caches other at ≡ node_way self.old.caches other at }
+        ensures same { (other at : ℕ) → node_way self.new.caches other at
+            ≡ node_way self.old.caches other at }
         ensures others { OtherLevels level self.old.caches self.new.caches }
     {
         self.caches[level as usize - 1].touch(index)
@@ -81,7 +82,8 @@ impl NodeCache {
         requires latest { IsLatestNode self.old.caches level index }
         ensures geometry { self.new.geometry ≡ self.old.geometry }
         ensures nodes { AreNodeCaches self.new.geometry self.new.caches }
-        ensures changed { node_way self.new.caches level index ≡ Some (record { place = index; changed = true; copy = block }) }
+        ensures changed { node_way self.new.caches level index
+            ≡ Some (record { place = index; changed = true; copy = block }) }
         ensures same { OtherNodes level index self.old.caches self.new.caches }
         ensures others { OtherLevels level self.old.caches self.new.caches }
     {
@@ -112,7 +114,8 @@ impl NodeCache {
         ensures removed { node_way self.new.caches level index ≡ None }
         ensures same { OtherNodes level index self.old.caches self.new.caches }
         ensures others { OtherLevels level self.old.caches self.new.caches }
-        ensures room { (other : ℕ) → index % 8 ≡ other % 8 → HasRoom (set_at (level_cache self.new.caches level) other) }
+        ensures room { (other : ℕ) → index % 8 ≡ other % 8 →
+            HasRoom (set_at (level_cache self.new.caches level) other) }
     {
         self.caches[level as usize - 1].remove(index);
     }
@@ -126,7 +129,8 @@ impl NodeCache {
         ensures geometry { self.new.geometry ≡ self.old.geometry }
         ensures nodes { AreNodeCaches self.new.geometry self.new.caches }
         ensures latest { IsLatestNode self.new.caches level index }
-        ensures put { node_way self.new.caches level index ≡ Some (record { place = index; changed = false; copy = block }) }
+        ensures put { node_way self.new.caches level index
+            ≡ Some (record { place = index; changed = false; copy = block }) }
         ensures same { OtherNodes level index self.old.caches self.new.caches }
         ensures others { OtherLevels level self.old.caches self.new.caches }
     {

@@ -65,7 +65,8 @@ impl Adversary {
         ensures ok { OnOk result (self.new ≡ after_due next script.now self.old) }
         ensures sure { IsFalse (any_due next script.now) → IsOk result }
         ensures geometry { self.new.places.geometry ≡ self.old.places.geometry }
-        ensures changes { ChangesOnly self.old.places self.new.places (script_may_change script.now) }
+        ensures changes { ChangesOnly self.old.places self.new.places
+            (script_may_change script.now) }
     {
         for line in script.as_slice() {
             self.act_line(line, next)?;
@@ -118,7 +119,8 @@ impl Adversary {
         requires inside { IsPlace self.old.places.geometry place }
         requires fits { offset + length bytes.now ≤ stored_size self.old.places.geometry place }
         ensures ok { OnOk result
-            (self.new ≡ after_put place (with_bytes offset bytes.now (bytes_at self.old.places place)) self.old) }
+            (self.new ≡ after_put place
+            (with_bytes offset bytes.now (bytes_at self.old.places place)) self.old) }
         ensures err { OnErr result (self.new ≡ self.old) }
     {
         match place {
@@ -139,7 +141,8 @@ impl Adversary {
         requires inside { IsPlace self.old.places.geometry place }
         requires fits { offset + length mask.now ≤ stored_size self.old.places.geometry place }
         ensures ok { OnOk result
-            (self.new ≡ after_put place (with_mask offset mask.now (bytes_at self.old.places place)) self.old) }
+            (self.new ≡ after_put place (with_mask offset mask.now (bytes_at self.old.places place))
+            self.old) }
         ensures err { OnErr result (self.new ≡ self.old) }
     {
         match place {
@@ -161,9 +164,11 @@ impl Adversary {
         requires second { IsPlace self.old.places.geometry second }
         requires one_kind { place_size first ≡ place_size second }
         ensures ok { OnOk result (self.new
-            ≡ after_put second (bytes_at self.old.places first) (after_put first (bytes_at self.old.places second) self.old)) }
+            ≡ after_put second (bytes_at self.old.places first)
+            (after_put first (bytes_at self.old.places second) self.old)) }
         ensures geometry { self.new.places.geometry ≡ self.old.places.geometry }
-        ensures changes { ChangesOnly self.old.places self.new.places (λ place. place_eq place first || place_eq place second) }
+        ensures changes { ChangesOnly self.old.places self.new.places
+            (λ place. place_eq place first || place_eq place second) }
     {
         match (first, second) {
             (Place::Line(line), Place::Line(other)) => {
@@ -193,7 +198,8 @@ impl Adversary {
     fn put(&mut self, place: Place, bytes: &[u8]) -> Result<(), NoMemory>
         requires inside { IsPlace self.old.places.geometry place }
         requires fits { length bytes.now ≡ stored_size self.old.places.geometry place }
-        ensures ok { OnOk result (self.new ≡ after_put place (with_bytes 0 bytes.now (zeros_of place)) self.old) }
+        ensures ok { OnOk result (self.new
+            ≡ after_put place (with_bytes 0 bytes.now (zeros_of place)) self.old) }
         ensures err { OnErr result (self.new ≡ self.old) }
     {
         match place {
@@ -213,7 +219,8 @@ impl Adversary {
     fn save(&mut self, register: u8, place: Place)
         requires inside { IsPlace self.old.places.geometry place }
         requires fits { register < 16 }
-        ensures { self.new ≡ with_register register (register_of place (bytes_at self.old.places place)) self.old }
+        ensures { self.new ≡ with_register register
+            (register_of place (bytes_at self.old.places place)) self.old }
     {
         let value = match place {
             Place::Line(line) => Register::Line(self.places.line(line)),
@@ -226,7 +233,8 @@ impl Adversary {
         requires inside { IsPlace self.old.places.geometry place }
         requires fits { register < 16 }
         ensures ok { OnOk result
-            (self.new ≡ after_restore (slice_index_or self.old.registers register Empty) place self.old) }
+            (self.new ≡ after_restore (slice_index_or self.old.registers register Empty) place
+            self.old) }
         ensures err { OnErr result (self.new ≡ self.old) }
     {
         match (&self.registers[register as usize], place) {
@@ -240,7 +248,8 @@ impl Adversary {
 
     fn save_all(&mut self, register: u8) -> Result<(), NoMemory>
         requires fits { register < 16 }
-        ensures ok { OnOk result (self.new ≡ with_register register (AllPlaces self.old.places) self.old) }
+        ensures ok { OnOk result (self.new
+            ≡ with_register register (AllPlaces self.old.places) self.old) }
         ensures err { OnErr result (self.new ≡ self.old) }
     {
         let places = self.places.copy()?;
@@ -251,7 +260,8 @@ impl Adversary {
     fn restore_all(&mut self, register: u8) -> Result<(), NoMemory>
         requires fits { register < 16 }
         ensures ok { OnOk result
-            (self.new ≡ after_restore_all (slice_index_or self.old.registers register Empty) self.old) }
+            (self.new ≡ after_restore_all (slice_index_or self.old.registers register Empty)
+            self.old) }
         ensures err { OnErr result (self.new ≡ self.old) }
         ensures geometry { self.new.places.geometry ≡ self.old.places.geometry }
     {
@@ -281,8 +291,10 @@ impl Adversary {
     pub(crate) fn put_sealed(&mut self, line: u32, sealed: &Sealed) -> Result<(), NoMemory>
         requires inside { IsPlace self.old.places.geometry (Line line) }
         requires fits { IsTag self.old.places.geometry.layout sealed.now.tag }
-        ensures ok { OnOk result (self.new ≡ after_put (Line line) (sealed_bytes sealed.now) self.old) }
-        ensures here { OnOk result (bytes_at self.new.places (Line line) ≡ sealed_bytes sealed.now) }
+        ensures ok { OnOk result (self.new
+            ≡ after_put (Line line) (sealed_bytes sealed.now) self.old) }
+        ensures here { OnOk result (bytes_at self.new.places (Line line)
+            ≡ sealed_bytes sealed.now) }
         ensures err { OnErr result (self.new ≡ self.old) }
     {
         self.places.set_line(line, bytes_of(sealed))

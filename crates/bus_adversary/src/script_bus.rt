@@ -98,12 +98,16 @@ impl Bus for ScriptBus {
         ensures state { OnOk result
             (state_of self.new ≡ after_next_read self.old.script (Line line) (state_of self.old)) }
         ensures counts { OnErr result (self.new.writes ≡ self.old.writes) }
-        ensures answer { IfOk result (λ sealed. sealed_bytes sealed ≡ stored_at (state_of self.new) (Line line)) }
-        ensures is_ok { IsFalse (any_due (next_read (Line line) (state_of self.old)) self.old.script)
+        ensures answer { IfOk result (λ sealed. sealed_bytes sealed
+            ≡ stored_at (state_of self.new) (Line line)) }
+        ensures is_ok { IsFalse (any_due (next_read (Line line) (state_of self.old))
+            self.old.script)
             → IsOk result }
 
-        ensures access { CameBy (script_history self.old) (one_read (Line line) sealed_bytes result) (script_history self.new) }
-        ensures fits { IfOk result (λ sealed. IsTag (script_history self.old).geometry.layout sealed.tag) }
+        ensures access { CameBy (script_history self.old) (one_read (Line line) sealed_bytes result)
+            (script_history self.new) }
+        ensures fits { IfOk result (λ sealed. IsTag (script_history self.old).geometry.layout
+            sealed.tag) }
         ensures geometry { (script_history self.new).geometry ≡ (script_history self.old).geometry }
         ensures script { self.new.script ≡ self.old.script }
     {
@@ -125,10 +129,12 @@ impl Bus for ScriptBus {
         requires fits { IsTag (script_history self.old).geometry.layout sealed.now.tag }
 
         ensures state { OnOk result (state_of self.new
-            ≡ after_next_write self.old.script (Line line) (sealed_bytes sealed.now) (state_of self.old)) }
+            ≡ after_next_write self.old.script (Line line) (sealed_bytes sealed.now)
+            (state_of self.old)) }
         ensures counts { OnErr result (self.new.writes ≡ self.old.writes) }
 
-        ensures access { CameBy (script_history self.old) (one_write (Line line) (sealed_bytes sealed.now) result) (script_history self.new) }
+        ensures access { CameBy (script_history self.old)
+            (one_write (Line line) (sealed_bytes sealed.now) result) (script_history self.new) }
         ensures geometry { (script_history self.new).geometry ≡ (script_history self.old).geometry }
         ensures script { self.new.script ≡ self.old.script }
     {
@@ -150,13 +156,17 @@ impl Bus for ScriptBus {
         requires inside { IsPlace (script_history self.old).geometry (Node level index) }
 
         ensures state { OnOk result
-            (state_of self.new ≡ after_next_read self.old.script (Node level index) (state_of self.old)) }
+            (state_of self.new ≡ after_next_read self.old.script (Node level index)
+            (state_of self.old)) }
         ensures counts { OnErr result (self.new.writes ≡ self.old.writes) }
-        ensures answer { IfOk result (λ block. block ≡ stored_at (state_of self.new) (Node level index)) }
-        ensures is_ok { IsFalse (any_due (next_read (Node level index) (state_of self.old)) self.old.script)
+        ensures answer { IfOk result (λ block. block
+            ≡ stored_at (state_of self.new) (Node level index)) }
+        ensures is_ok { IsFalse (any_due (next_read (Node level index) (state_of self.old))
+            self.old.script)
             → IsOk result }
 
-        ensures access { CameBy (script_history self.old) (one_read (Node level index) (λ block. block) result) (script_history self.new) }
+        ensures access { CameBy (script_history self.old)
+            (one_read (Node level index) (λ block. block) result) (script_history self.new) }
         ensures geometry { (script_history self.new).geometry ≡ (script_history self.old).geometry }
         ensures script { self.new.script ≡ self.old.script }
     {
@@ -181,7 +191,8 @@ impl Bus for ScriptBus {
             ≡ after_next_write self.old.script (Node level index) block.now (state_of self.old)) }
         ensures counts { OnErr result (self.new.writes ≡ self.old.writes) }
 
-        ensures access { CameBy (script_history self.old) (one_write (Node level index) block.now result) (script_history self.new) }
+        ensures access { CameBy (script_history self.old)
+            (one_write (Node level index) block.now result) (script_history self.new) }
         ensures geometry { (script_history self.new).geometry ≡ (script_history self.old).geometry }
         ensures script { self.new.script ≡ self.old.script }
     {

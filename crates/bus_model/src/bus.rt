@@ -32,14 +32,16 @@ pub trait Bus {
         requires inside { IsPlace (history self.old).geometry (Line line) }
         requires fits { IsTag (history self.old).geometry.layout sealed.now.tag }
 
-        ensures access { moved self.old (one_write (Line line) (sealed_bytes sealed.now) result) self.new }
+        ensures access { moved self.old (one_write (Line line) (sealed_bytes sealed.now) result)
+            self.new }
         ensures geometry { (history self.new).geometry ≡ (history self.old).geometry };
 
     /// What the place of a node holds. It is refused only out of memory.
     fn read_node(&mut self, level: u8, index: u32) -> Result<[u8; 64], NoMemory>
         requires inside { IsPlace (history self.old).geometry (Node level index) }
 
-        ensures access { moved self.old (one_read (Node level index) (λ block. block) result) self.new }
+        ensures access { moved self.old (one_read (Node level index) (λ block. block) result)
+            self.new }
         ensures geometry { (history self.new).geometry ≡ (history self.old).geometry };
 
     /// Puts a block at a node's place. It is refused only out of memory.

@@ -58,7 +58,8 @@ impl FlipBus {
         requires inside { offset < stored_size geometry place }
 
         ensures history { IfOk result (λ bus. flip_history bus ≡ new_history geometry) }
-        ensures flip { IfOk result (λ bus. bus.flip ≡ record { place = place; read = k; offset = offset; mask = mask }) }
+        ensures flip { IfOk result (λ bus. bus.flip
+            ≡ record { place = place; read = k; offset = offset; mask = mask }) }
     {
         Ok(FlipBus {
             bus: HonestBus::new(alloc, geometry)?,
@@ -96,11 +97,14 @@ impl Bus for FlipBus {
         requires inside { IsPlace (flip_history self.old).geometry (Line line) }
 
         ensures is_ok { IsOk result }
-        ensures answer { IfOk result (λ sealed. sealed_bytes sealed ≡ next_answer self.old.flip (flip_history self.old) (Line line)) }
+        ensures answer { IfOk result (λ sealed. sealed_bytes sealed
+            ≡ next_answer self.old.flip (flip_history self.old) (Line line)) }
         ensures flip { self.new.flip ≡ self.old.flip }
 
-        ensures access { CameBy (flip_history self.old) (one_read (Line line) sealed_bytes result) (flip_history self.new) }
-        ensures fits { IfOk result (λ sealed. IsTag (flip_history self.old).geometry.layout sealed.tag) }
+        ensures access { CameBy (flip_history self.old) (one_read (Line line) sealed_bytes result)
+            (flip_history self.new) }
+        ensures fits { IfOk result (λ sealed. IsTag (flip_history self.old).geometry.layout
+            sealed.tag) }
         ensures geometry { (flip_history self.new).geometry ≡ (flip_history self.old).geometry }
     {
         let due = is_due(&self.flip, Place::Line(line), self.bus.line_reads(line));
@@ -116,7 +120,8 @@ impl Bus for FlipBus {
         requires fits { IsTag (flip_history self.old).geometry.layout sealed.now.tag }
 
         ensures flip { self.new.flip ≡ self.old.flip }
-        ensures access { CameBy (flip_history self.old) (one_write (Line line) (sealed_bytes sealed.now) result) (flip_history self.new) }
+        ensures access { CameBy (flip_history self.old)
+            (one_write (Line line) (sealed_bytes sealed.now) result) (flip_history self.new) }
         ensures geometry { (flip_history self.new).geometry ≡ (flip_history self.old).geometry }
     {
         self.bus.write_data(line, sealed)?;
@@ -128,10 +133,12 @@ impl Bus for FlipBus {
         requires inside { IsPlace (flip_history self.old).geometry (Node level index) }
 
         ensures is_ok { IsOk result }
-        ensures answer { IfOk result (λ block. block ≡ next_answer self.old.flip (flip_history self.old) (Node level index)) }
+        ensures answer { IfOk result (λ block. block
+            ≡ next_answer self.old.flip (flip_history self.old) (Node level index)) }
         ensures flip { self.new.flip ≡ self.old.flip }
 
-        ensures access { CameBy (flip_history self.old) (one_read (Node level index) (λ block. block) result) (flip_history self.new) }
+        ensures access { CameBy (flip_history self.old)
+            (one_read (Node level index) (λ block. block) result) (flip_history self.new) }
         ensures geometry { (flip_history self.new).geometry ≡ (flip_history self.old).geometry }
     {
         let place = Place::Node { level, index };
@@ -148,7 +155,8 @@ impl Bus for FlipBus {
         requires inside { IsPlace (flip_history self.old).geometry (Node level index) }
 
         ensures flip { self.new.flip ≡ self.old.flip }
-        ensures access { CameBy (flip_history self.old) (one_write (Node level index) block.now result) (flip_history self.new) }
+        ensures access { CameBy (flip_history self.old)
+            (one_write (Node level index) block.now result) (flip_history self.new) }
         ensures geometry { (flip_history self.new).geometry ≡ (flip_history self.old).geometry }
     {
         self.bus.write_node(level, index, block)?;
@@ -175,7 +183,8 @@ fn flip_byte(bytes: &mut [u8], offset: usize, mask: u8)
 
 // The answer to a read that is due to be changed, or isn't.
 fn answer_block(flip: &Flip, due: bool, block: &[u8; 64]) -> [u8; 64]
-    ensures { result ≡ (if due then with_flip flip.now.offset flip.now.mask block.now else block.now) }
+    ensures { result ≡ (if due then with_flip flip.now.offset flip.now.mask block.now else
+        block.now) }
 {
     if due {
         flip_block(block, flip.offset, flip.mask)
@@ -185,7 +194,9 @@ fn answer_block(flip: &Flip, due: bool, block: &[u8; 64]) -> [u8; 64]
 }
 
 fn answer_sealed(flip: &Flip, due: bool, sealed: &Sealed) -> Sealed
-    ensures { sealed_bytes result ≡ (if due then with_flip flip.now.offset flip.now.mask (sealed_bytes sealed.now) else sealed_bytes sealed.now) }
+    ensures { sealed_bytes result
+        ≡ (if due then with_flip flip.now.offset flip.now.mask (sealed_bytes sealed.now) else
+        sealed_bytes sealed.now) }
 {
     if due {
         flip_sealed(sealed, flip.offset, flip.mask)

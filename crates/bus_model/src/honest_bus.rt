@@ -120,10 +120,13 @@ impl Bus for HonestBus {
         requires inside { IsPlace (honest_history self.old).geometry (Line line) }
 
         ensures is_ok { IsOk result }
-        ensures answer { IfOk result (λ sealed. sealed_bytes sealed ≡ (honest_history self.old).written (Line line)) }
+        ensures answer { IfOk result (λ sealed. sealed_bytes sealed
+            ≡ (honest_history self.old).written (Line line)) }
 
-        ensures access { CameBy (honest_history self.old) (one_read (Line line) sealed_bytes result) (honest_history self.new) }
-        ensures fits { IfOk result (λ sealed. IsTag (honest_history self.old).geometry.layout sealed.tag) }
+        ensures access { CameBy (honest_history self.old) (one_read (Line line) sealed_bytes result)
+            (honest_history self.new) }
+        ensures fits { IfOk result (λ sealed. IsTag (honest_history self.old).geometry.layout
+            sealed.tag) }
         ensures geometry { (honest_history self.new).geometry ≡ (honest_history self.old).geometry }
     {
         self.accesses = self.accesses.saturating_add(1);
@@ -139,7 +142,8 @@ impl Bus for HonestBus {
 
         ensures sure { 0 < self.old.room → IsOk result }
 
-        ensures access { CameBy (honest_history self.old) (one_write (Line line) (sealed_bytes sealed.now) result) (honest_history self.new) }
+        ensures access { CameBy (honest_history self.old)
+            (one_write (Line line) (sealed_bytes sealed.now) result) (honest_history self.new) }
         ensures geometry { (honest_history self.new).geometry ≡ (honest_history self.old).geometry }
     {
         keep_line(&mut self.lines, line, sealed)?;
@@ -152,9 +156,11 @@ impl Bus for HonestBus {
         requires inside { IsPlace (honest_history self.old).geometry (Node level index) }
 
         ensures is_ok { IsOk result }
-        ensures answer { IfOk result (λ block. block ≡ (honest_history self.old).written (Node level index)) }
+        ensures answer { IfOk result (λ block. block
+            ≡ (honest_history self.old).written (Node level index)) }
 
-        ensures access { CameBy (honest_history self.old) (one_read (Node level index) (λ block. block) result) (honest_history self.new) }
+        ensures access { CameBy (honest_history self.old)
+            (one_read (Node level index) (λ block. block) result) (honest_history self.new) }
         ensures geometry { (honest_history self.new).geometry ≡ (honest_history self.old).geometry }
     {
         self.accesses = self.accesses.saturating_add(1);
@@ -170,7 +176,8 @@ impl Bus for HonestBus {
 
         ensures sure { 0 < self.old.room → IsOk result }
 
-        ensures access { CameBy (honest_history self.old) (one_write (Node level index) block.now result) (honest_history self.new) }
+        ensures access { CameBy (honest_history self.old)
+            (one_write (Node level index) block.now result) (honest_history self.new) }
         ensures geometry { (honest_history self.new).geometry ≡ (honest_history self.old).geometry }
     {
         let number = self.geometry.node_number(level, index);
@@ -193,7 +200,8 @@ fn no_line() -> Sealed
 // A place that is written with zeros is no longer kept.
 fn keep_line(lines: &mut HashMap<u32, Sealed>, line: u32, sealed: &Sealed) -> Result<(), NoMemory>
     ensures sure { 0 < spare lines.old → IsOk result }
-    ensures ok { OnOk result (Keeps empty_line line sealed.now lines.old.entries lines.new.entries) }
+    ensures ok { OnOk result (Keeps empty_line line sealed.now lines.old.entries
+        lines.new.entries) }
     ensures err { OnErr result (lines.new.entries ≡ lines.old.entries) }
     ensures sparse { IsSparse empty_line lines.old.entries → IsSparse empty_line lines.new.entries }
 {
@@ -211,7 +219,8 @@ fn keep_node(
     block: &[u8; 64],
 ) -> Result<(), NoMemory>
     ensures sure { 0 < spare nodes.old → IsOk result }
-    ensures ok { OnOk result (Keeps empty_node number block.now nodes.old.entries nodes.new.entries) }
+    ensures ok { OnOk result (Keeps empty_node number block.now nodes.old.entries
+        nodes.new.entries) }
     ensures err { OnErr result (nodes.new.entries ≡ nodes.old.entries) }
     ensures sparse { IsSparse empty_node nodes.old.entries → IsSparse empty_node nodes.new.entries }
 {

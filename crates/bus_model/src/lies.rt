@@ -45,7 +45,8 @@ impl Lies {
     // Counts a false answer.
     fn tell(&mut self, answer: FalseAnswer)
         ensures count { self.new.count ≡ more_by 1 self.old.count }
-        ensures first { self.new.first ≡ (if self.old.count == 0 then Some answer else self.old.first) }
+        ensures first { self.new.first
+            ≡ (if self.old.count == 0 then Some answer else self.old.first) }
     {
         if self.count == 0 {
             self.first = Some(answer);
@@ -55,7 +56,12 @@ impl Lies {
 
     /// Counts the answer to a read of a line, the access of this number, where it differs from what was written.
     pub fn judge_sealed(&mut self, access: u64, line: u32, written: &Sealed, answer: &Sealed)
-        ensures { IsJudged (record { access = access; place = Line line; bytes = sealed_bytes answer.now }) (sealed_bytes written.now) self.old self.new }
+        ensures { IsJudged (record {
+          access = access;
+          place = Line line;
+          bytes = sealed_bytes
+              answer.now;
+        }) (sealed_bytes written.now) self.old self.new }
     {
         if differs(*answer, *written) {
             self.tell(FalseAnswer::Sealed {
@@ -75,7 +81,11 @@ impl Lies {
         written: &[u8; 64],
         answer: &[u8; 64],
     )
-        ensures { IsJudged (record { access = access; place = Node level index; bytes = answer.now }) written.now self.old self.new }
+        ensures { IsJudged (record {
+          access = access;
+          place = Node level index;
+          bytes = answer.now;
+        }) written.now self.old self.new }
     {
         if answer != written {
             self.tell(FalseAnswer::Block {

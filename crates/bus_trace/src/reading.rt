@@ -67,7 +67,8 @@ fn all_entries_at(
     bytes: &[u8],
     geometry: Geometry,
 ) -> Result<(Vec<Entry>, &[u8]), TraceError>
-    ensures { IsReadInMemory (λ x. (x.0.items, x.1.now)) result (all_entries_at geometry bytes.now) }
+    ensures { IsReadInMemory (λ x. (x.0.items, x.1.now)) result
+        (all_entries_at geometry bytes.now) }
 {
     let (count, bytes) = u64_at(bytes)?;
     entries_at(alloc, count, bytes, geometry)
@@ -80,7 +81,8 @@ fn entries_at(
     bytes: &[u8],
     geometry: Geometry,
 ) -> Result<(Vec<Entry>, &[u8]), TraceError>
-    ensures { IsReadInMemory (λ x. (x.0.items, x.1.now)) result (entries_at geometry count bytes.now) }
+    ensures { IsReadInMemory (λ x. (x.0.items, x.1.now)) result
+        (entries_at geometry count bytes.now) }
 {
     let mut entries = Vec::new(alloc);
     let mut rest = bytes;

@@ -20,7 +20,8 @@ pub fn write(alloc: Global, trace: &Trace) -> Result<Bytes, NoMemory>
 
     // The bytes of a trace in form are read as that trace.
     ensures read_back { (geometry : GeometryView) → IsGeometry geometry →
-        IsInForm geometry trace.now → IfOk result (λ bytes. read_trace geometry bytes ≡ Ok trace.now) }
+        IsInForm geometry trace.now →
+        IfOk result (λ bytes. read_trace geometry bytes ≡ Ok trace.now) }
 {
     let mut file = Vec::new(alloc);
     file.extend_from_slice(&MAGIC)?;
@@ -107,7 +108,8 @@ fn put_node(
     index: u32,
     block: &[u8; 64],
 ) -> Result<(), NoMemory>
-    ensures { OnOk result (file.new.items ≡ file.old.items ++ node_bytes kind level index block.now) }
+    ensures { OnOk result (file.new.items
+        ≡ file.old.items ++ node_bytes kind level index block.now) }
 {
     file.push(kind)?;
     file.push(level)?;

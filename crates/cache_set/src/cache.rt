@@ -88,7 +88,8 @@ impl<const SETS: usize> Cache<SETS> {
         requires { IsLatest self.old place }
         ensures after { self.new ≡ with_changed self.old place copy }
         ensures cache { IsCache SETS self.new }
-        ensures changed { way_at self.new place ≡ Some (record { place = place; changed = true; copy = copy }) }
+        ensures changed { way_at self.new place
+            ≡ Some (record { place = place; changed = true; copy = copy }) }
         ensures same { (other : ℕ) → other ≢ place → way_at self.new other ≡ way_at self.old other }
     {
         self.sets[place as usize % SETS].change(place, copy);
@@ -98,7 +99,8 @@ impl<const SETS: usize> Cache<SETS> {
     /// then.
     pub fn read(&mut self, place: u32, at: usize, width: Width) -> Option<u32>
         requires inside { at + width_bytes width ≤ 64 }
-        ensures value { result ≡ option_map (λ copy. number_at copy at width) (copy_at self.old place) }
+        ensures value { result
+            ≡ option_map (λ copy. number_at copy at width) (copy_at self.old place) }
         ensures fits { IfSome result (λ n. n < 2 ^ (8 * width_bytes width)) }
         ensures held { IsSome result ↔ IsSome (way_at self.old place) }
         ensures after { self.new ≡ with_set self.old place (touched place (set_at self.old place)) }
@@ -119,7 +121,12 @@ impl<const SETS: usize> Cache<SETS> {
             × (self.new ≡ with_changed self.old place (with_number copy at width value)) }
         ensures cache { IsCache SETS self.new }
         ensures changed { IsTrue result → (copy : List ℕ) → copy_at self.old place ≡ Some copy →
-            way_at self.new place ≡ Some (record { place = place; changed = true; copy = with_number copy at width value }) }
+            way_at self.new place
+            ≡ Some (record {
+              place = place;
+              changed = true;
+              copy = with_number copy at width value;
+            }) }
         ensures absent { result ≡ false → way_at self.new place ≡ None }
         ensures unchanged { result ≡ false → self.new ≡ self.old }
         ensures same { (other : ℕ) → other ≢ place → way_at self.new other ≡ way_at self.old other }
@@ -146,7 +153,8 @@ impl<const SETS: usize> Cache<SETS> {
         ensures after { self.new ≡ with_new self.old place copy }
         ensures cache { IsCache SETS self.new }
         ensures latest { IsLatest self.new place }
-        ensures put { way_at self.new place ≡ Some (record { place = place; changed = false; copy = copy }) }
+        ensures put { way_at self.new place
+            ≡ Some (record { place = place; changed = false; copy = copy }) }
         ensures same { (other : ℕ) → other ≢ place → way_at self.new other ≡ way_at self.old other }
     {
         self.sets[place as usize % SETS].put(place, copy);

@@ -74,7 +74,8 @@ impl CacheSet {
     pub(crate) fn change(&mut self, place: u32, copy: [u8; 64])
         requires apart { IsSet self.old }
         requires latest { latest_place self.old ≡ Some place }
-        ensures { self.new ≡ with_latest (record { place = place; changed = true; copy = copy }) self.old }
+        ensures { self.new ≡ with_latest (record { place = place; changed = true; copy = copy })
+            self.old }
     {
         change_latest(self.ways.as_mut_slice(), self.swapped, place, copy);
     }
@@ -83,7 +84,8 @@ impl CacheSet {
     pub(crate) fn read(&mut self, place: u32, at: usize, width: Width) -> Option<u32>
         requires apart { IsSet self.old }
         requires inside { at + width_bytes width ≤ 64 }
-        ensures value { result ≡ option_map (λ copy. number_at copy at width) (copy_of place self.old) }
+        ensures value { result
+            ≡ option_map (λ copy. number_at copy at width) (copy_of place self.old) }
         ensures fits { IfSome result (λ n. n < 2 ^ (8 * width_bytes width)) }
         ensures after { self.new ≡ touched place self.old }
     {
@@ -98,7 +100,9 @@ impl CacheSet {
         requires inside { at + width_bytes width ≤ 64 }
         ensures held { IsTrue result ↔ IsSome (way_of place self.old) }
         ensures after { IsTrue result → (copy : List ℕ) × (copy_of place self.old ≡ Some copy)
-            × (self.new ≡ with_latest (record { place = place; changed = true; copy = with_number copy at width value }) self.old) }
+            × (self.new ≡ with_latest
+            (record { place = place; changed = true; copy = with_number copy at width value })
+            self.old) }
         ensures unchanged { result ≡ false → self.new ≡ self.old }
     {
         let Some(index) = find(self.ways.as_slice(), &mut self.swapped, place) else {
@@ -120,7 +124,8 @@ impl CacheSet {
     pub(crate) fn put(&mut self, place: u32, copy: [u8; 64])
         requires room { HasRoom self.old }
         requires absent { way_of place self.old ≡ None }
-        ensures { self.new ≡ with_latest (record { place = place; changed = false; copy = copy }) self.old }
+        ensures { self.new ≡ with_latest (record { place = place; changed = false; copy = copy })
+            self.old }
     {
         self.ways.push(Way {
             place,
@@ -146,7 +151,8 @@ fn find(ways: &[Way], swapped: &mut bool, place: u32) -> Option<usize>
     ensures here { IfSome result (λ index. slice_get ways.now index ≡ way_of place ways.now) }
     ensures inside { IfSome result (λ index. index < length ways.now) }
     ensures latest { IfSome result (λ index. swapped.new ≡ (index == 0)) }
-    ensures touched { IfSome result (λ index. touched place ways.now ≡ in_order swapped.new ways.now) }
+    ensures touched { IfSome result (λ index. touched place ways.now
+        ≡ in_order swapped.new ways.now) }
     ensures unchanged { result ≡ None → swapped.new ≡ swapped.old }
 {
     let index = position(ways, place)?;
@@ -160,7 +166,8 @@ fn position(ways: &[Way], place: u32) -> Option<usize>
     ensures held { IsSome result ↔ IsSome (way_of place ways.now) }
     ensures inside { IfSome result (λ index. index < length ways.now) }
     ensures here { IfSome result (λ index. slice_get ways.now index ≡ way_of place ways.now) }
-    ensures touched { IfSome result (λ index. touched place ways.now ≡ in_order (index == 0) ways.now) }
+    ensures touched { IfSome result (λ index. touched place ways.now
+        ≡ in_order (index == 0) ways.now) }
 {
     if !ways.is_empty() && ways[0].place == place {
         return Some(0);
@@ -184,7 +191,9 @@ fn latest_copy(ways: &[Way], swapped: bool, place: u32) -> &[u8; 64]
 fn change_latest(ways: &mut [Way], swapped: bool, place: u32, copy: [u8; 64])
     requires apart { IsSet (in_order swapped ways.old) }
     requires latest { latest_place (in_order swapped ways.old) ≡ Some place }
-    ensures { in_order swapped ways.new ≡ with_latest (record { place = place; changed = true; copy = copy }) (in_order swapped ways.old) }
+    ensures { in_order swapped ways.new
+        ≡ with_latest (record { place = place; changed = true; copy = copy })
+        (in_order swapped ways.old) }
 {
     let latest = latest_index(ways.len(), swapped);
     ways[latest] = Way {
@@ -201,7 +210,13 @@ fn write_at(ways: &mut [Way], index: usize, place: u32, at: usize, width: Width,
     requires here { slice_get ways.old index ≡ way_of place ways.old }
     requires inside { at + width_bytes width ≤ 64 }
     ensures { (copy : List ℕ) × (copy_of place ways.old ≡ Some copy)
-        × (in_order (index == 0) ways.new ≡ with_latest (record { place = place; changed = true; copy = with_number copy at width value }) ways.old) }
+        × (in_order (index == 0) ways.new
+        ≡ with_latest (record {
+          place = place;
+          changed = true;
+          copy = with_number copy at width
+              value;
+        }) ways.old) }
 {
     let way = &mut ways[index];
     width.write(&mut way.copy, at, value);

@@ -46,35 +46,45 @@ pub fn read_line<B: Bus, T: Tagger>(
         (B.history bus.old) tags.old (B.history bus.new) tags.new accesses (result_err result) }
 
     ensures moves { Moves (B.history bus.old) tags.old (B.history bus.new) tags.new }
-    ensures once { ReadsOnce (line_place line) (B.history bus.old) tags.old (B.history bus.new) tags.new (result_err result) }
+    ensures once { ReadsOnce (line_place line) (B.history bus.old) tags.old (B.history bus.new)
+        tags.new (result_err result) }
     ensures others { (other : Place) → other ≢ line_place line →
         SamePlace other (B.history bus.old) tags.old.made (B.history bus.new) tags.new.made }
 
     // Where the counter is the line's last, a false answer is shown as evidence or taken for tampering. Where there is
     // evidence already, under any counter, the first false answer is still the one that it shows.
     ensures honest { (used : List (ℕ × Counter)) →
-        (tags.old.evidence ≡ None → IsCurrent (tags_of T.data_tag_of T.node_tag_of tags.old) used tags.old.made (B.history bus.old).written line counter) →
-        IsAccounted (tags_of T.data_tag_of T.node_tag_of tags.old) used tags.old.made (B.history bus.old) None tags.old.evidence →
-        IsAccounted (tags_of T.data_tag_of T.node_tag_of tags.old) used tags.new.made (B.history bus.new) (result_err result) tags.new.evidence }
+        (tags.old.evidence ≡ None →
+        IsCurrent (tags_of T.data_tag_of T.node_tag_of tags.old) used tags.old.made
+        (B.history bus.old).written line counter) →
+        IsAccounted (tags_of T.data_tag_of T.node_tag_of tags.old) used tags.old.made
+        (B.history bus.old) None tags.old.evidence →
+        IsAccounted (tags_of T.data_tag_of T.node_tag_of tags.old) used tags.new.made
+        (B.history bus.new) (result_err result) tags.new.evidence }
 
     // What is answered was tagged under the counter, or there is evidence.
     ensures known { IfOk result (λ cipher. length cipher ≡ 64
         × (tags.new.evidence ≡ None → Contains tags.old.made (Line line counter cipher))) }
 
     // What passed though it was never tagged is answered as it was.
-    ensures accepted { (at : ℕ) (under : Counter) (sealed : Sealed) (made_count : ℕ) → tags.old.evidence ≡ None →
+    ensures accepted { (at : ℕ) (under : Counter) (sealed : Sealed) (made_count : ℕ) →
+        tags.old.evidence ≡ None →
         tags.new.evidence ≡ Some (Forgery at under sealed made_count) →
         IfOk result (λ cipher. (at ≡ line) × (under ≡ counter) × (cipher ≡ sealed.cipher)) }
 
     // Tampering comes only of this line, and where an answer was false.
     ensures tampered { (place : Place) → result ≡ Err (Tampered place) → (place ≡ line_place line)
-        × ((used : List (ℕ × Counter)) → IsCurrent (tags_of T.data_tag_of T.node_tag_of tags.old) used tags.old.made (B.history bus.old).written line counter →
+        × ((used : List (ℕ × Counter)) →
+        IsCurrent (tags_of T.data_tag_of T.node_tag_of tags.old) used tags.old.made
+        (B.history bus.old).written line counter →
         Rose (B.history bus.old).lies (B.history bus.new).lies) }
 
     // Evidence comes only where an answer was false.
     ensures shown { (used : List (ℕ × Counter)) →
-        IsCurrent (tags_of T.data_tag_of T.node_tag_of tags.old) used tags.old.made (B.history bus.old).written line counter →
-        tags.old.evidence ≡ None → (tags.new.evidence ≡ None) ⊎ Rose (B.history bus.old).lies (B.history bus.new).lies }
+        IsCurrent (tags_of T.data_tag_of T.node_tag_of tags.old) used tags.old.made
+        (B.history bus.old).written line counter →
+        tags.old.evidence ≡ None → (tags.new.evidence ≡ None)
+        ⊎ Rose (B.history bus.old).lies (B.history bus.new).lies }
     ensures unspent { (page : ℕ) → result ≢ Err (Spent page) }
 {
     let sealed = bus.read_data(line)?;
@@ -100,13 +110,16 @@ pub fn write_line<B: Bus, T: Tagger>(
     // What the tag engine made, and what the bus was told.
     ensures made { tags.new ≡ after_make (Line line counter cipher.now) tags.old }
     ensures ok { OnOk result (B.history bus.new ≡ after_write (line_place line)
-        (sealed_line (tags_of T.data_tag_of T.node_tag_of tags.old) line counter cipher.now) (B.history bus.old)) }
+        (sealed_line (tags_of T.data_tag_of T.node_tag_of tags.old) line counter cipher.now)
+        (B.history bus.old)) }
     ensures err { OnErr result (B.history bus.new ≡ B.history bus.old) }
 
     // It is one write, of the message.
-    ensures makes { B.moved bus.old (if_done result (access_of (tags_of T.data_tag_of T.node_tag_of tags.old)
+    ensures makes { B.moved bus.old
+        (if_done result (access_of (tags_of T.data_tag_of T.node_tag_of tags.old)
         (Line line counter cipher.now))) bus.new
-        × WritesMessage (tags_of T.data_tag_of T.node_tag_of tags.old) (Line line counter cipher.now)
+        × WritesMessage (tags_of T.data_tag_of T.node_tag_of tags.old)
+        (Line line counter cipher.now)
         (B.history bus.old) tags.old (B.history bus.new) tags.new result }
 
     ensures moves { Moves (B.history bus.old) tags.old (B.history bus.new) tags.new }
@@ -118,8 +131,10 @@ pub fn write_line<B: Bus, T: Tagger>(
 
     // No answer was false.
     ensures honest { (used more : List (ℕ × Counter)) →
-        IsAccounted (tags_of T.data_tag_of T.node_tag_of tags.old) used tags.old.made (B.history bus.old) None tags.old.evidence →
-        IsAccounted (tags_of T.data_tag_of T.node_tag_of tags.old) more tags.new.made (B.history bus.new) None tags.new.evidence }
+        IsAccounted (tags_of T.data_tag_of T.node_tag_of tags.old) used tags.old.made
+        (B.history bus.old) None tags.old.evidence →
+        IsAccounted (tags_of T.data_tag_of T.node_tag_of tags.old) more tags.new.made
+        (B.history bus.new) None tags.new.evidence }
 {
     let tag = tags.make_data(line, counter, cipher)?;
     let sealed = Sealed {

@@ -46,7 +46,8 @@ pub fn read_node<B: Bus, T: Tagger>(
         (B.history bus.old) tags.old (B.history bus.new) tags.new accesses (result_err result) }
 
     ensures moves { Moves (B.history bus.old) tags.old (B.history bus.new) tags.new }
-    ensures once { ReadsOnce (node_place level index) (B.history bus.old) tags.old (B.history bus.new) tags.new (result_err result) }
+    ensures once { ReadsOnce (node_place level index) (B.history bus.old) tags.old
+        (B.history bus.new) tags.new (result_err result) }
     ensures others { (other : Place) → other ≢ node_place level index →
         SamePlace other (B.history bus.old) tags.old.made (B.history bus.new) tags.new.made }
     ensures lines { SameLines (B.history bus.old) tags.old.made (B.history bus.new) tags.new.made }
@@ -55,13 +56,18 @@ pub fn read_node<B: Bus, T: Tagger>(
     // there is evidence already, under any tag, the first false answer is still the one that it shows.
     ensures honest { (used : List (ℕ × Counter)) →
         (tags.old.evidence ≡ None →
-        IsCurrentNode (tags_of T.data_tag_of T.node_tag_of tags.old) tags.old.made (B.history bus.old).written level index tag.now) →
-        IsAccounted (tags_of T.data_tag_of T.node_tag_of tags.old) used tags.old.made (B.history bus.old) None tags.old.evidence →
-        IsAccounted (tags_of T.data_tag_of T.node_tag_of tags.old) used tags.new.made (B.history bus.new) (result_err result) tags.new.evidence }
+        IsCurrentNode (tags_of T.data_tag_of T.node_tag_of tags.old) tags.old.made
+        (B.history bus.old).written level index tag.now) →
+        IsAccounted (tags_of T.data_tag_of T.node_tag_of tags.old) used tags.old.made
+        (B.history bus.old) None tags.old.evidence →
+        IsAccounted (tags_of T.data_tag_of T.node_tag_of tags.old) used tags.new.made
+        (B.history bus.new) (result_err result) tags.new.evidence }
 
     // Under that tag, what is answered is the last block, or there is evidence.
-    ensures known { IsCurrentNode (tags_of T.data_tag_of T.node_tag_of tags.old) tags.old.made (B.history bus.old).written level index tag.now →
-        tags.new.evidence ≡ None → IfOk result (λ block. last_node level index tags.old.made ≡ Some block) }
+    ensures known { IsCurrentNode (tags_of T.data_tag_of T.node_tag_of tags.old) tags.old.made
+        (B.history bus.old).written level index tag.now →
+        tags.new.evidence ≡ None →
+        IfOk result (λ block. last_node level index tags.old.made ≡ Some block) }
 
     // A block that passed though it isn't the last one is answered as it was.
     ensures accepted { (at_level at made_at : ℕ) (bytes under : List ℕ) → tags.old.evidence ≡ None →
@@ -69,13 +75,17 @@ pub fn read_node<B: Bus, T: Tagger>(
         (at_level ≡ level) × (at ≡ index) × (under ≡ tag.now) × (result ≡ Ok bytes) }
 
     // Tampering comes only of this node, and where an answer was false.
-    ensures tampered { (place : Place) → result ≡ Err (Tampered place) → (place ≡ node_place level index)
-        × (IsCurrentNode (tags_of T.data_tag_of T.node_tag_of tags.old) tags.old.made (B.history bus.old).written level index tag.now →
+    ensures tampered { (place : Place) → result ≡ Err (Tampered place) →
+        (place ≡ node_place level index)
+        × (IsCurrentNode (tags_of T.data_tag_of T.node_tag_of tags.old) tags.old.made
+        (B.history bus.old).written level index tag.now →
         Rose (B.history bus.old).lies (B.history bus.new).lies) }
 
     // Evidence comes only where an answer was false.
-    ensures shown { IsCurrentNode (tags_of T.data_tag_of T.node_tag_of tags.old) tags.old.made (B.history bus.old).written level index tag.now →
-        tags.old.evidence ≡ None → tags.new.evidence ≢ None → Rose (B.history bus.old).lies (B.history bus.new).lies }
+    ensures shown { IsCurrentNode (tags_of T.data_tag_of T.node_tag_of tags.old) tags.old.made
+        (B.history bus.old).written level index tag.now →
+        tags.old.evidence ≡ None → tags.new.evidence ≢ None →
+        Rose (B.history bus.old).lies (B.history bus.new).lies }
     ensures unspent { (page : ℕ) → result ≢ Err (Spent page) }
     ensures long { IfOk result (λ block. length block ≡ 64) }
 {
@@ -102,26 +112,32 @@ pub fn write_node<B: Bus, T: Tagger>(
     // What the tag engine made, and what the bus was told.
     ensures made { tags.new ≡ after_make (Node level index block.now) tags.old }
     ensures tag { IfOk result (λ tag.
-        (tag ≡ tags_of T.data_tag_of T.node_tag_of tags.old (Node level index block.now)) × (length tag ≡ 16)) }
-    ensures ok { OnOk result (B.history bus.new ≡ after_write (node_place level index) block.now (B.history bus.old)) }
+        (tag ≡ tags_of T.data_tag_of T.node_tag_of tags.old (Node level index block.now))
+        × (length tag ≡ 16)) }
+    ensures ok { OnOk result (B.history bus.new
+        ≡ after_write (node_place level index) block.now (B.history bus.old)) }
     ensures err { OnErr result (B.history bus.new ≡ B.history bus.old) }
 
     // It is one write, of the message.
-    ensures makes { B.moved bus.old (if_done result (access_of (tags_of T.data_tag_of T.node_tag_of tags.old)
+    ensures makes { B.moved bus.old
+        (if_done result (access_of (tags_of T.data_tag_of T.node_tag_of tags.old)
         (Node level index block.now))) bus.new
         × WritesMessage (tags_of T.data_tag_of T.node_tag_of tags.old) (Node level index block.now)
         (B.history bus.old) tags.old (B.history bus.new) tags.new result }
 
     ensures moves { Moves (B.history bus.old) tags.old (B.history bus.new) tags.new }
-    ensures once { OnOk result (WritesOnce (node_place level index) block.now (B.history bus.old) (B.history bus.new)) }
+    ensures once { OnOk result (WritesOnce (node_place level index) block.now (B.history bus.old)
+        (B.history bus.new)) }
     ensures others { (other : Place) → other ≢ node_place level index →
         SamePlace other (B.history bus.old) tags.old.made (B.history bus.new) tags.new.made }
     ensures lines { SameLines (B.history bus.old) tags.old.made (B.history bus.new) tags.new.made }
 
     // No answer was false.
     ensures honest { (used more : List (ℕ × Counter)) →
-        IsAccounted (tags_of T.data_tag_of T.node_tag_of tags.old) used tags.old.made (B.history bus.old) None tags.old.evidence →
-        IsAccounted (tags_of T.data_tag_of T.node_tag_of tags.old) more tags.new.made (B.history bus.new) None tags.new.evidence }
+        IsAccounted (tags_of T.data_tag_of T.node_tag_of tags.old) used tags.old.made
+        (B.history bus.old) None tags.old.evidence →
+        IsAccounted (tags_of T.data_tag_of T.node_tag_of tags.old) more tags.new.made
+        (B.history bus.new) None tags.new.evidence }
 {
     let tag = tags.make_node(level, index, block)?;
     bus.write_node(level, index, block)?;

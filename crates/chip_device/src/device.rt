@@ -31,14 +31,17 @@ pub fn run_on_device<O: Sink>(
     requires size { image.now.size ≡ memory_size asked.now.execution.file.geometry }
     requires fits { IfSome script (FitScript asked.now.execution.file.geometry) }
     ensures ran { (program : Program) →
-        IsImageOf (memory_size asked.now.execution.file.geometry) program image.now → IfOk result (λ done.
-        RunsProtected (terms_of (run_asked asked.now) program input.now) (O.state out.old) (O.state out.new)
+        IsImageOf (memory_size asked.now.execution.file.geometry) program image.now →
+        IfOk result (λ done.
+        RunsProtected (terms_of (run_asked asked.now) program input.now) (O.state out.old)
+        (O.state out.new)
         (new_history asked.now.execution.file.geometry) (run_history done.1) done.0) }
     ensures bus { IfOk result (λ done. IsBusOf script done.1) }
 
     // The writes of its bus are the messages of the run, in order.
     ensures accesses { (program : Program) →
-        IfOk result (λ done. WentOver (terms_of (run_asked asked.now) program input.now) done.0 done.1) }
+        IfOk result (λ done. WentOver (terms_of (run_asked asked.now) program input.now) done.0
+        done.1) }
 
     ensures silent { OnErr result (IsSilent (O.state out.old) (O.state out.new)) }
     ensures faults { (O.state out.old).faults ≤ (O.state out.new).faults }

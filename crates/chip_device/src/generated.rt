@@ -79,8 +79,10 @@ fn run_by_default(
     printed: &mut Printed,
 ) -> Result<(RunRecord, RunBus), NoMemory>
     requires size { image.now.size ≡ memory_size (one 4) }
-    ensures ran { (program : Program) → IsImageOf (memory_size (one 4)) program image.now → IfOk result (λ done.
-        RunsProtected (terms_of generated_run program []) (gathered printed.old) (gathered printed.new)
+    ensures ran { (program : Program) → IsImageOf (memory_size (one 4)) program image.now →
+        IfOk result (λ done.
+        RunsProtected (terms_of generated_run program []) (gathered printed.old)
+        (gathered printed.new)
         (new_history (one 4)) (run_history done.1) done.0) }
     ensures bus { IfOk result (λ done. IsBusOf None done.1) }
     ensures accesses { (program : Program) →

@@ -18,7 +18,8 @@ pub fn run_plain<O: Sink>(
     execution: &Execution<'_>,
     out: &mut O,
 ) -> PlainRecord
-    ensures ran { (program : Program) → IsImageOf (memory_size execution.now.file.geometry) program image.now →
+    ensures ran { (program : Program) →
+        IsImageOf (memory_size execution.now.file.geometry) program image.now →
         RunsPlain (opening execution.now.file.geometry program input.now) execution.now.steps
         (O.state out.old) (O.state out.new) result }
     ensures faults { (O.state out.old).faults ≤ (O.state out.new).faults }

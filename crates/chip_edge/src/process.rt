@@ -42,9 +42,11 @@ pub fn answer_read<R: Files + AllocGlobal, O: Sink, N: Sink>(
     ensures words { IfOk read (λ words. IsAnswered (map string_bytes words.items)
         (O.state out.old) (O.state out.new) (N.state note.old) (N.state note.new) result) }
     ensures no_memory { IfErr read (λ error. error_kind error ≡ OutOfMemory →
-        IsOutOfMemory (O.state out.old) (O.state out.new) (N.state note.old) (N.state note.new) result) }
+        IsOutOfMemory (O.state out.old) (O.state out.new) (N.state note.old) (N.state note.new)
+        result) }
     ensures no_text { IfErr read (λ error. error_kind error ≢ OutOfMemory →
-        AreNoText (O.state out.old) (O.state out.new) (N.state note.old) (N.state note.new) result) }
+        AreNoText (O.state out.old) (O.state out.new) (N.state note.old) (N.state note.new)
+        result) }
     ensures refused { OnErr read (IsSilent (O.state out.old) (O.state out.new)) }
 {
     match read {

@@ -95,7 +95,8 @@ pub fn read_opened<F: Read + Drop>(
     ensures within { IfOk result (λ bytes. length bytes ≤ limit) }
 
     ensures failed { IfErr opened (λ error. error_kind error ≢ OutOfMemory → result ≡ Err Failed) }
-    ensures no_memory { IfErr opened (λ error. error_kind error ≡ OutOfMemory → result ≡ Err no_memory) }
+    ensures no_memory { IfErr opened (λ error. error_kind error ≡ OutOfMemory →
+        result ≡ Err no_memory) }
     ensures not_long { OnErr opened (result ≢ Err Long) }
     ensures refused { OnErr opened (IsErr result) }
 {
@@ -107,8 +108,10 @@ pub fn read_opened<F: Read + Drop>(
 
 /// All that a reader has left, which is at most `limit` bytes. At most one byte more is read.
 pub fn read_all<R: Read + Drop>(alloc: Global, reader: R, limit: u64) -> Result<Bytes, ReadStop>
-    ensures bytes { limit < top → IfOk result (λ bytes. IfSome (R.remaining reader) (λ left. bytes ≡ left)) }
-    ensures long { limit < top → result ≡ Err Long → IfSome (R.remaining reader) (λ left. limit < length left) }
+    ensures bytes { limit < top →
+        IfOk result (λ bytes. IfSome (R.remaining reader) (λ left. bytes ≡ left)) }
+    ensures long { limit < top → result ≡ Err Long →
+        IfSome (R.remaining reader) (λ left. limit < length left) }
     ensures within { IfOk result (λ bytes. length bytes ≤ limit) }
 {
     let mut bytes = Vec::new(alloc);

@@ -31,7 +31,8 @@ impl<W: Write> Sink for Stream<W> {
 
     /// The writer gains the first bytes of the piece, as many as are answered, or nothing.
     fn write(&mut self, piece: &[u8]) -> Result<usize, SinkStop>
-        ensures writes { WriteAppends (W.contents self.old.writer) (W.contents self.new.writer) result piece.now }
+        ensures writes { WriteAppends (W.contents self.old.writer) (W.contents self.new.writer)
+            result piece.now }
 
         ensures most { IfOk result (λ n. n ≤ length piece.now) }
         ensures least { IfOk result (λ n. 0 < length piece.now → 0 < n) }

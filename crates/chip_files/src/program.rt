@@ -30,7 +30,8 @@ pub fn program_in(alloc: Global, form: ProgramForm, bytes: &[u8], size: u32) -> 
     requires short { length bytes.now ≤ 8388608 }
     ensures program { IfOk result (IsImageIn form size bytes.now) }
     ensures small { IfOk result (λ image. segment_bytes image.segments < 2 ^ 31) }
-    ensures refused { (refusal : Refusal) → result ≡ Err (Refused refusal) → program_of form size bytes.now ≡ Err refusal }
+    ensures refused { (refusal : Refusal) → result ≡ Err (Refused refusal) →
+        program_of form size bytes.now ≡ Err refusal }
 {
     match form {
         ProgramForm::ElfFile => Ok(parse(alloc, bytes, size)?),

@@ -41,10 +41,13 @@ pub fn take_run<F: Files>(
 ) -> Result<(Image, Option<Script>, Bytes), Stop>
     ensures taken { IfOk result (λ taken. (program : Program)
         × IsImageOf (memory_size asked.now.execution.file.geometry) program taken.0
-        × ReadsRun (run_asked asked.now) (F.state files.old) (F.state files.new) program taken.1 taken.2) }
-    ensures fits { IfOk result (λ taken. IfSome taken.1 (FitScript asked.now.execution.file.geometry)) }
+        × ReadsRun (run_asked asked.now) (F.state files.old) (F.state files.new) program taken.1
+        taken.2) }
+    ensures fits { IfOk result
+        (λ taken. IfSome taken.1 (FitScript asked.now.execution.file.geometry)) }
     ensures stopped { IfErr result (λ stop.
-        IsStoppedBy stop (run_needs (run_asked asked.now)) (F.state files.old) (F.state files.new)) }
+        IsStoppedBy stop (run_needs (run_asked asked.now)) (F.state files.old)
+        (F.state files.new)) }
     ensures held { (F.state files.new).held ≡ (F.state files.old).held }
     ensures quiet { OnOk result ((F.state files.new).faults ≡ (F.state files.old).faults) }
     ensures faults { (F.state files.old).faults ≤ (F.state files.new).faults }
@@ -64,9 +67,11 @@ pub fn take_execution<F: Files>(
 ) -> Result<(Image, Bytes), Stop>
     ensures taken { IfOk result (λ taken. (program : Program)
         × IsImageOf (memory_size execution.now.file.geometry) program taken.0
-        × ReadsExecution (execution_asked execution.now) (F.state files.old) (F.state files.new) program taken.1) }
+        × ReadsExecution (execution_asked execution.now) (F.state files.old) (F.state files.new)
+        program taken.1) }
     ensures stopped { IfErr result (λ stop.
-        IsStoppedBy stop (execution_needs (execution_asked execution.now)) (F.state files.old) (F.state files.new)) }
+        IsStoppedBy stop (execution_needs (execution_asked execution.now)) (F.state files.old)
+        (F.state files.new)) }
     ensures held { (F.state files.new).held ≡ (F.state files.old).held }
     ensures quiet { OnOk result ((F.state files.new).faults ≡ (F.state files.old).faults) }
     ensures faults { (F.state files.old).faults ≤ (F.state files.new).faults }
@@ -82,12 +87,15 @@ pub fn take_program<F: Files>(
     file: &ProgramFile<'_>,
     files: &mut F,
 ) -> Result<Image, Stop>
-    ensures taken { IfOk result (λ image. (program : Program) × IsImageOf (memory_size file.now.geometry) program image
+    ensures taken { IfOk result (λ image. (program : Program)
+        × IsImageOf (memory_size file.now.geometry) program image
         × IsProgram (F.state files.old) (file_asked file.now) program) }
     ensures small { IfOk result (λ image. segment_bytes image.segments < 2 ^ 31) }
-    ensures asked { OnOk result (Asks (program_need (file_asked file.now) ∷ []) (F.state files.old) (F.state files.new)) }
+    ensures asked { OnOk result (Asks (program_need (file_asked file.now) ∷ []) (F.state files.old)
+        (F.state files.new)) }
     ensures stopped { IfErr result (λ stop.
-        IsStoppedBy stop (program_need (file_asked file.now) ∷ []) (F.state files.old) (F.state files.new)) }
+        IsStoppedBy stop (program_need (file_asked file.now) ∷ []) (F.state files.old)
+        (F.state files.new)) }
     ensures held { (F.state files.new).held ≡ (F.state files.old).held }
     ensures quiet { OnOk result ((F.state files.new).faults ≡ (F.state files.old).faults) }
     ensures faults { (F.state files.old).faults ≤ (F.state files.new).faults }
@@ -107,7 +115,8 @@ pub fn take_report<F: Files>(
         × ReadsReport (report_asked asked.now) (F.state files.old) (F.state files.new) text
         × IsVerdict asked.now.device_key text signed) }
     ensures stopped { IfErr result (λ stop.
-        IsStoppedBy stop (report_need (report_asked asked.now) ∷ []) (F.state files.old) (F.state files.new)) }
+        IsStoppedBy stop (report_need (report_asked asked.now) ∷ []) (F.state files.old)
+        (F.state files.new)) }
     ensures held { (F.state files.new).held ≡ (F.state files.old).held }
     ensures quiet { OnOk result ((F.state files.new).faults ≡ (F.state files.old).faults) }
     ensures faults { (F.state files.old).faults ≤ (F.state files.new).faults }
@@ -140,10 +149,12 @@ fn take_script<F: Files>(
     geometry: Geometry,
     files: &mut F,
 ) -> Result<Option<Script>, Stop>
-    ensures taken { IfOk result (IsScript (F.state files.old) geometry (option_map (λ n. n.now) name.entry)) }
+    ensures taken { IfOk result
+        (IsScript (F.state files.old) geometry (option_map (λ n. n.now) name.entry)) }
     ensures fits { IfOk result (λ script. IfSome script (FitScript geometry)) }
     ensures asked { OnOk result
-        (Asks (script_needs geometry (option_map (λ n. n.now) name.entry)) (F.state files.old) (F.state files.new)) }
+        (Asks (script_needs geometry (option_map (λ n. n.now) name.entry)) (F.state files.old)
+        (F.state files.new)) }
     ensures stopped { IfErr result (λ stop.
         IsStoppedBy stop (script_needs geometry (option_map (λ n. n.now) name.entry))
         (F.state files.old) (F.state files.new)) }
@@ -163,9 +174,11 @@ fn take_script<F: Files>(
 fn take_input<F: Files>(alloc: Global, name: Option<&str>, files: &mut F) -> Result<Bytes, Stop>
     ensures taken { IfOk result (IsInput (F.state files.old) (option_map (λ n. n.now) name.entry)) }
     ensures asked { OnOk result
-        (Asks (input_needs (option_map (λ n. n.now) name.entry)) (F.state files.old) (F.state files.new)) }
+        (Asks (input_needs (option_map (λ n. n.now) name.entry)) (F.state files.old)
+        (F.state files.new)) }
     ensures stopped { IfErr result (λ stop.
-        IsStoppedBy stop (input_needs (option_map (λ n. n.now) name.entry)) (F.state files.old) (F.state files.new)) }
+        IsStoppedBy stop (input_needs (option_map (λ n. n.now) name.entry)) (F.state files.old)
+        (F.state files.new)) }
     ensures held { (F.state files.new).held ≡ (F.state files.old).held }
     ensures quiet { OnOk result ((F.state files.new).faults ≡ (F.state files.old).faults) }
     ensures faults { (F.state files.old).faults ≤ (F.state files.new).faults }
@@ -181,9 +194,11 @@ fn take_input<F: Files>(alloc: Global, name: Option<&str>, files: &mut F) -> Res
 fn read_file<F: Files>(alloc: Global, name: &str, limit: u64, files: &mut F) -> Result<Bytes, Stop>
     ensures bytes { IfOk result (HasBytes (F.state files.old).held name.now) }
     ensures within { IfOk result (λ bytes. length bytes ≤ limit) }
-    ensures asked { OnOk result ((F.state files.new).asked ≡ (F.state files.old).asked ++ name.now ∷ []) }
+    ensures asked { OnOk result ((F.state files.new).asked
+        ≡ (F.state files.old).asked ++ name.now ∷ []) }
     ensures stopped { IfErr result (λ stop. (fault : List ℕ → Option Refusal) → IsStoppedBy stop
-        (record { name = name.now; limit = limit; fault = fault } ∷ []) (F.state files.old) (F.state files.new)) }
+        (record { name = name.now; limit = limit; fault = fault } ∷ []) (F.state files.old)
+        (F.state files.new)) }
     ensures held { (F.state files.new).held ≡ (F.state files.old).held }
     ensures quiet { OnOk result ((F.state files.new).faults ≡ (F.state files.old).faults) }
     ensures faults { (F.state files.old).faults ≤ (F.state files.new).faults }

@@ -83,7 +83,8 @@ pub fn run_words<F: Files, O: Sink, N: Sink>(
     ensures honest { script_followed result.bus ≡ [] → result.lies ≡ 0 }
 
     // The first of the request's files were asked for, in order, each once. None changes, and no fault is taken back.
-    ensures asked { AsksFront (needs_of (request_of (texts words.now))) (F.state files.old) (F.state files.new) }
+    ensures asked { AsksFront (needs_of (request_of (texts words.now))) (F.state files.old)
+        (F.state files.new) }
     ensures held { (F.state files.new).held ≡ (F.state files.old).held }
     ensures files_faults { (F.state files.old).faults ≤ (F.state files.new).faults }
     ensures out_faults { (O.state out.old).faults ≤ (O.state out.new).faults }

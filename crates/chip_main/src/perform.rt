@@ -21,11 +21,13 @@ pub fn perform<F: Files, O: Sink>(
     files: &mut F,
     out: &mut O,
 ) -> Course
-    ensures came { CameAbout result (request_of (texts words.now)) (F.state files.old) (F.state files.new) (O.state out.old) (O.state out.new) }
+    ensures came { CameAbout result (request_of (texts words.now)) (F.state files.old)
+        (F.state files.new) (O.state out.old) (O.state out.new) }
     ensures held { (F.state files.new).held ≡ (F.state files.old).held }
     ensures files_faults { (F.state files.old).faults ≤ (F.state files.new).faults }
     ensures out_faults { (O.state out.old).faults ≤ (O.state out.new).faults }
-    ensures quiet { IsResult (code_of (course_status result)) → ((F.state files.new).faults ≡ (F.state files.old).faults)
+    ensures quiet { IsResult (code_of (course_status result)) →
+        ((F.state files.new).faults ≡ (F.state files.old).faults)
         × ((O.state out.new).faults ≡ (O.state out.old).faults) }
 {
     match course_of(alloc, words, files, out) {
@@ -41,14 +43,17 @@ fn course_of<F: Files, O: Sink>(
     out: &mut O,
 ) -> Result<Course, Stop>
     ensures came { IfOk result (λ course.
-        CameAbout course (request_of (texts words.now)) (F.state files.old) (F.state files.new) (O.state out.old) (O.state out.new)) }
+        CameAbout course (request_of (texts words.now)) (F.state files.old) (F.state files.new)
+        (O.state out.old) (O.state out.new)) }
     ensures stopped { IfErr result (λ stop.
-        CameAbout (stopped_course stop) (request_of (texts words.now)) (F.state files.old) (F.state files.new) (O.state out.old) (O.state out.new)) }
+        CameAbout (stopped_course stop) (request_of (texts words.now)) (F.state files.old)
+        (F.state files.new) (O.state out.old) (O.state out.new)) }
     ensures held { (F.state files.new).held ≡ (F.state files.old).held }
     ensures files_faults { (F.state files.old).faults ≤ (F.state files.new).faults }
     ensures out_faults { (O.state out.old).faults ≤ (O.state out.new).faults }
     ensures quiet { IfOk result (λ course. IsResult (code_of (course_status course)) →
-        ((F.state files.new).faults ≡ (F.state files.old).faults) × ((O.state out.new).faults ≡ (O.state out.old).faults)) }
+        ((F.state files.new).faults ≡ (F.state files.old).faults)
+        × ((O.state out.new).faults ≡ (O.state out.old).faults)) }
 {
     match read_words(alloc, words)? {
         Request::Run(asked) => {

@@ -32,7 +32,8 @@ pub fn tell<N: Sink>(alloc: Global, course: &Course, note: &mut N) -> Result<(),
 }
 
 fn tell_refusal<N: Sink>(alloc: Global, refusal: &Refusal, note: &mut N) -> Result<(), SinkStop>
-    ensures told { IsWritten (refusal_text refusal.now) (N.state note.old) (N.state note.new) result }
+    ensures told { IsWritten (refusal_text refusal.now) (N.state note.old) (N.state note.new)
+        result }
     ensures faults { (N.state note.old).faults ≤ (N.state note.new).faults }
     ensures quiet { OnOk result ((N.state note.new).faults ≡ (N.state note.old).faults) }
 {
@@ -67,7 +68,8 @@ fn tell_record<N: Sink>(
     note: &mut N,
 ) -> Result<(), SinkStop>
     ensures told { IsWritten
-        (record_text run.now.ending run.now.retired lies run.now.made run.now.evidence run.now.report)
+        (record_text run.now.ending run.now.retired lies run.now.made run.now.evidence
+        run.now.report)
         (N.state note.old) (N.state note.new) result }
     ensures faults { (N.state note.old).faults ≤ (N.state note.new).faults }
     ensures quiet { OnOk result ((N.state note.new).faults ≡ (N.state note.old).faults) }

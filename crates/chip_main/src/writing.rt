@@ -21,7 +21,8 @@ pub fn write_elf_file<O: Sink>(alloc: Global, image: &Image, out: &mut O) -> Res
 
 /// Writes a program's measurement as a line of 64 digits.
 pub fn write_measurement<O: Sink>(alloc: Global, image: &Image, out: &mut O) -> Result<(), SinkStop>
-    ensures told { IsWritten (measurement_line image.now) (O.state out.old) (O.state out.new) result }
+    ensures told { IsWritten (measurement_line image.now) (O.state out.old) (O.state out.new)
+        result }
     ensures faults { (O.state out.old).faults ≤ (O.state out.new).faults }
     ensures quiet { OnOk result ((O.state out.new).faults ≡ (O.state out.old).faults) }
 {

@@ -49,15 +49,20 @@ impl<'a, B: Bus, T: Tagger> Running<'a, Core, B, T> {
         requires size { image.now.size ≡ memory_size setup.now.geometry }
         requires geometry { (B.history bus).geometry ≡ setup.now.geometry }
         requires nothing_written { NothingWritten (B.history bus) }
-        ensures begun { IfOk result (λ running. HasRun (λ core. core) T.data_tag_of T.node_tag_of B.history B.moved bus tagger
-            (run_terms image.now input.now setup.now (engine_tag (T.data_tag_of tagger) (T.node_tag_of tagger) setup.now.geometry))
+        ensures begun { IfOk result (λ running. HasRun (λ core. core) T.data_tag_of T.node_tag_of
+            B.history B.moved bus tagger
+            (run_terms image.now input.now setup.now
+            (engine_tag (T.data_tag_of tagger) (T.node_tag_of tagger) setup.now.geometry))
             [] running.execution) }
-        ensures nothing_taken { IfOk result (λ running. Holds256 running.execution.calls.digest []) }
+        ensures nothing_taken { IfOk result (λ running. Holds256 running.execution.calls.digest
+            []) }
         ensures no_memory { (left : B) → result ≡ Err (NoMemory left) →
             left ≡ bus }
-        ensures stopped { (memory : SecureRamView B T) (stop : MemStop) → result ≡ Err (Stopped memory stop) →
+        ensures stopped { (memory : SecureRamView B T) (stop : MemStop) →
+            result ≡ Err (Stopped memory stop) →
             HasStored T.data_tag_of T.node_tag_of B.history B.moved bus tagger
-            (run_terms image.now input.now setup.now (engine_tag (T.data_tag_of tagger) (T.node_tag_of tagger) setup.now.geometry))
+            (run_terms image.now input.now setup.now
+            (engine_tag (T.data_tag_of tagger) (T.node_tag_of tagger) setup.now.geometry))
             memory × (stopped memory ≡ Some stop) }
     {
         let mut memory = match SecureRam::boot(
@@ -89,7 +94,8 @@ impl<'a, P: Processor, B: Bus, T: Tagger> Running<'a, P, B, T> {
         setup: &Setup,
         ending: Ending,
     ) -> (RunRecord, B)
-        ensures hands_out { HandsOut T.data_tag_of T.node_tag_of B.history self.entry.execution.memory result.1 result.0 }
+        ensures hands_out { HandsOut T.data_tag_of T.node_tag_of B.history
+            self.entry.execution.memory result.1 result.0 }
         ensures retired { result.0.retired ≡ self.entry.execution.retired }
         ensures ending { result.0.ending ≡ ending }
         ensures report { (printed : List ℕ) → Holds256 self.entry.execution.calls.digest printed →

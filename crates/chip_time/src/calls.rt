@@ -117,7 +117,9 @@ pub(crate) struct Tagged {
 impl Tagged {
     // Tags the message of a line whose number goes by the tag.
     pub(crate) fn advance(&mut self)
-        ensures { self.new.tag ≡ tag_of self.old.tagger.line_key (data_bytes (slice_index_or self.old.tag 0 0) COUNTER LINE) }
+        ensures { self.new.tag
+            ≡ tag_of self.old.tagger.line_key (data_bytes (slice_index_or self.old.tag 0 0) COUNTER
+            LINE) }
     {
         let message = data_message(u32::from(self.tag[0]), COUNTER, &LINE);
         self.tag = self.tagger.data_tag(&message);
@@ -134,7 +136,8 @@ pub(crate) struct Hashed {
 impl Hashed {
     // Takes the HMAC of the message of a line whose number goes by the last one.
     pub(crate) fn advance(&mut self)
-        ensures digest { self.new.digest ≡ hmac_of self.old.key (data_bytes (slice_index_or self.old.digest 0 0) COUNTER LINE) }
+        ensures digest { self.new.digest
+            ≡ hmac_of self.old.key (data_bytes (slice_index_or self.old.digest 0 0) COUNTER LINE) }
         ensures key { self.new.key ≡ self.old.key }
     {
         let message = data_message(u32::from(self.digest[0]), COUNTER, &LINE);

@@ -44,7 +44,8 @@ impl TimedLines {
     /// Writes the bytes to a line that is not used up, in any of the first two million rounds.
     pub(crate) fn write(&mut self, round: u64) -> Result<(), MemStop>
         ensures { IsQuiet self.new.lines → OnOk result
-            (contents self.new.lines ≡ with_line (contents self.old.lines) (round / 127 % 16384) self.old.bytes) }
+            (contents self.new.lines
+            ≡ with_line (contents self.old.lines) (round / 127 % 16384) self.old.bytes) }
     {
         let line = (round / WRITES % u64::from(LINES)) as u32;
         self.lines.write_line(line, &self.bytes)
@@ -53,7 +54,8 @@ impl TimedLines {
     /// Writes the bytes to one line, which is used up by every 128th call.
     pub(crate) fn wear(&mut self) -> Result<(), MemStop>
         ensures { IsQuiet self.new.lines →
-            OnOk result (contents self.new.lines ≡ with_line (contents self.old.lines) 0 self.old.bytes) }
+            OnOk result (contents self.new.lines
+            ≡ with_line (contents self.old.lines) 0 self.old.bytes) }
     {
         self.lines.write_line(LINE, &self.bytes)
     }

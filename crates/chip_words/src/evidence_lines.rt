@@ -12,7 +12,8 @@ pub(crate) fn evidence_lines(
     made: &Messages,
     evidence: &Evidence,
 ) -> Result<[String; 4], AllocError>
-    ensures { IfOk result (λ lines. map string_bytes lines ≡ spec.evidence_lines made.now evidence.now) }
+    ensures { IfOk result (λ lines. map string_bytes lines
+        ≡ spec.evidence_lines made.now evidence.now) }
 {
     match evidence {
         Evidence::Forgery {
@@ -64,7 +65,8 @@ fn counter_line(alloc: Global, counter: Counter) -> Result<String, AllocError>
 
 // The block of a node's message.
 fn made_line(alloc: Global, message: Option<Message>) -> Result<String, AllocError>
-    ensures { IfOk result (λ text. string_bytes text ≡ spec.hex_line (codes "made") (spec.block_in message)) }
+    ensures { IfOk result (λ text. string_bytes text
+        ≡ spec.hex_line (codes "made") (spec.block_in message)) }
 {
     match message {
         Some(Message::Node { block, .. }) => hex_line(alloc, "made", &block),

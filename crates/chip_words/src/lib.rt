@@ -47,10 +47,12 @@ pub fn read_words<'a>(alloc: Global, words: &'a [&'a str]) -> Result<Request<'a>
     ensures refused { IfErr result (λ error. Explains error (request_of (texts words.now))) }
     ensures geometry { IfOk result (λ request.
         IfSome (asked_program (asked request)) (λ file. IsGeometry file.geometry)) }
-    ensures numbers { IfOk result (λ request. IfSome (asked_number (asked request)) (λ number. number < 2 ^ 32)) }
+    ensures numbers { IfOk result (λ request. IfSome (asked_number (asked request))
+        (λ number. number < 2 ^ 32)) }
 
     // Words are taken just where clap has no fault to find in them. Then their values are tested.
-    ensures faultless { IsTrue (is_taken (request_of (texts words.now))) ↔ (fault_of chip_app (texts words.now) ≡ []) }
+    ensures faultless { IsTrue (is_taken (request_of (texts words.now)))
+        ↔ (fault_of chip_app (texts words.now) ≡ []) }
 {
     let app = app::app(alloc)?;
     match app.try_get_matches_from(words) {

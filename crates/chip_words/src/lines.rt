@@ -9,7 +9,8 @@ use std::alloc::{AllocError, Global};
 
 /// Writes a text of lines, each as one piece. After an error no further line is written.
 pub(crate) fn write_lines<N: Sink>(note: &mut N, lines: &[String]) -> Result<(), SinkStop>
-    ensures told { IsWritten (concat (map string_bytes lines.now)) (N.state note.old) (N.state note.new) result }
+    ensures told { IsWritten (concat (map string_bytes lines.now)) (N.state note.old)
+        (N.state note.new) result }
     ensures faults { (N.state note.old).faults ≤ (N.state note.new).faults }
     ensures quiet { OnOk result ((N.state note.new).faults ≡ (N.state note.old).faults) }
 {

@@ -33,7 +33,8 @@ pub fn tell_plain<N: Sink>(
     retired: u64,
     note: &mut N,
 ) -> Result<(), SinkStop>
-    ensures told { IsWritten (spec.plain_text ending retired) (N.state note.old) (N.state note.new) result }
+    ensures told { IsWritten (spec.plain_text ending retired) (N.state note.old) (N.state note.new)
+        result }
     ensures faults { (N.state note.old).faults ≤ (N.state note.new).faults }
     ensures quiet { OnOk result ((N.state note.new).faults ≡ (N.state note.old).faults) }
 {
@@ -42,7 +43,8 @@ pub fn tell_plain<N: Sink>(
 }
 
 fn plain_lines(alloc: Global, ending: Ending, retired: u64) -> Result<[String; 2], AllocError>
-    ensures { IfOk result (λ lines. concat (map string_bytes lines) ≡ spec.plain_text ending retired) }
+    ensures { IfOk result (λ lines. concat (map string_bytes lines)
+        ≡ spec.plain_text ending retired) }
 {
     Ok([ending_line(alloc, ending)?, retired_line(alloc, retired)?])
 }
@@ -50,7 +52,8 @@ fn plain_lines(alloc: Global, ending: Ending, retired: u64) -> Result<[String; 2
 /// Tells of a run on protected memory, a line at a time. After an error no further line is written.
 pub fn tell_run<N: Sink>(alloc: Global, run: &RunNote<'_>, note: &mut N) -> Result<(), SinkStop>
     ensures told { IsWritten
-        (spec.record_text run.now.ending run.now.retired run.now.lies run.now.made.now run.now.evidence run.now.report)
+        (spec.record_text run.now.ending run.now.retired run.now.lies run.now.made.now
+        run.now.evidence run.now.report)
         (N.state note.old) (N.state note.new) result }
     ensures faults { (N.state note.old).faults ≤ (N.state note.new).faults }
     ensures quiet { OnOk result ((N.state note.new).faults ≡ (N.state note.old).faults) }
@@ -64,7 +67,8 @@ pub fn tell_run<N: Sink>(alloc: Global, run: &RunNote<'_>, note: &mut N) -> Resu
 // How the run ended, how many instructions were retired, and how many answers were false.
 fn run_lines(alloc: Global, run: &RunNote<'_>) -> Result<[String; 3], AllocError>
     ensures { IfOk result (λ lines. map string_bytes lines
-        ≡ spec.ending_line run.now.ending ∷ spec.retired_line run.now.retired ∷ spec.lies_line run.now.lies ∷ []) }
+        ≡ spec.ending_line run.now.ending ∷ spec.retired_line run.now.retired ∷ spec.lies_line
+        run.now.lies ∷ []) }
 {
     Ok([
         ending_line(alloc, run.ending)?,
@@ -80,7 +84,8 @@ fn tell_evidence<N: Sink>(
     evidence: &Option<Evidence>,
     note: &mut N,
 ) -> Result<(), SinkStop>
-    ensures told { IsWritten (concat (spec.shown_lines made.now evidence.now)) (N.state note.old) (N.state note.new) result }
+    ensures told { IsWritten (concat (spec.shown_lines made.now evidence.now)) (N.state note.old)
+        (N.state note.new) result }
     ensures faults { (N.state note.old).faults ≤ (N.state note.new).faults }
     ensures quiet { OnOk result ((N.state note.new).faults ≡ (N.state note.old).faults) }
 {
@@ -99,7 +104,8 @@ fn tell_report<N: Sink>(
     report: &Option<[u8; 159]>,
     note: &mut N,
 ) -> Result<(), SinkStop>
-    ensures told { IsWritten (concat (spec.report_lines report.now)) (N.state note.old) (N.state note.new) result }
+    ensures told { IsWritten (concat (spec.report_lines report.now)) (N.state note.old)
+        (N.state note.new) result }
     ensures faults { (N.state note.old).faults ≤ (N.state note.new).faults }
     ensures quiet { OnOk result ((N.state note.new).faults ≡ (N.state note.old).faults) }
 {

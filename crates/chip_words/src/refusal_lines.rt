@@ -10,7 +10,8 @@ use std::alloc::{AllocError, Global};
 
 /// Tells that `clap` doesn't take the words, and its own text about them.
 pub fn tell_usage<N: Sink>(text: &str, note: &mut N) -> Result<(), SinkStop>
-    ensures told { IsWritten (spec.usage_text text.now) (N.state note.old) (N.state note.new) result }
+    ensures told { IsWritten (spec.usage_text text.now) (N.state note.old) (N.state note.new)
+        result }
     ensures faults { (N.state note.old).faults ≤ (N.state note.new).faults }
     ensures quiet { OnOk result ((N.state note.new).faults ≡ (N.state note.old).faults) }
 {

@@ -11,7 +11,8 @@ use std::alloc::{AllocError, Global};
 
 /// Writes what a report says, a line at a time. After an error no further line is written.
 pub fn write_fields<O: Sink>(alloc: Global, signed: &Signed, out: &mut O) -> Result<(), SinkStop>
-    ensures told { IsWritten (spec.report_text signed.now) (O.state out.old) (O.state out.new) result }
+    ensures told { IsWritten (spec.report_text signed.now) (O.state out.old) (O.state out.new)
+        result }
     ensures faults { (O.state out.old).faults ≤ (O.state out.new).faults }
     ensures quiet { OnOk result ((O.state out.new).faults ≡ (O.state out.old).faults) }
 {
@@ -26,7 +27,8 @@ fn write_layout<O: Sink>(
     layout: &Option<Layout>,
     out: &mut O,
 ) -> Result<(), SinkStop>
-    ensures told { IsWritten (concat (spec.layout_lines layout.now)) (O.state out.old) (O.state out.new) result }
+    ensures told { IsWritten (concat (spec.layout_lines layout.now)) (O.state out.old)
+        (O.state out.new) result }
     ensures faults { (O.state out.old).faults ≤ (O.state out.new).faults }
     ensures quiet { OnOk result ((O.state out.new).faults ≡ (O.state out.old).faults) }
 {

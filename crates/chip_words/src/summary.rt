@@ -16,7 +16,8 @@ pub fn write_summary<O: Sink>(
     printed: &[u8],
     out: &mut O,
 ) -> Result<(), SinkStop>
-    ensures told { IsWritten (spec.summary_text number ending retired printed.now) (O.state out.old) (O.state out.new) result }
+    ensures told { IsWritten (spec.summary_text number ending retired printed.now) (O.state out.old)
+        (O.state out.new) result }
     ensures faults { (O.state out.old).faults ≤ (O.state out.new).faults }
     ensures quiet { OnOk result ((O.state out.new).faults ≡ (O.state out.old).faults) }
 {
@@ -31,7 +32,8 @@ fn summary_lines(
     retired: u64,
     printed: &[u8],
 ) -> Result<[String; 4], AllocError>
-    ensures { IfOk result (λ lines. map string_bytes lines ≡ spec.summary_lines number ending retired printed.now) }
+    ensures { IfOk result (λ lines. map string_bytes lines
+        ≡ spec.summary_lines number ending retired printed.now) }
 {
     Ok([
         number_line(alloc, number)?,

@@ -61,7 +61,8 @@ fn assembly_request<'a>(values: &ArgMatches<'a>) -> Result<Request<'a>, ValueFau
 // `dis`.
 fn listing_request<'a>(values: &ArgMatches<'a>) -> Result<Request<'a>, ValueFault>
     requires { HasProgram (rows_of (found_of values.now)) }
-    ensures { answer_asked result ≡ by_values (asked_to_disassemble (rows_of (found_of values.now))) }
+    ensures { answer_asked result
+        ≡ by_values (asked_to_disassemble (rows_of (found_of values.now))) }
 {
     Ok(Request::Dis(program(values, geometry(values)?)))
 }
@@ -244,7 +245,8 @@ fn value<'a>(values: &ArgMatches<'a>, id: &str) -> &'a str
 
 // The first value of this id.
 fn text<'a>(values: &ArgMatches<'a>, id: &str) -> Option<&'a str>
-    ensures { option_map (λ text. text.now) result ≡ first_of id.now (rows_of (found_of values.now)) }
+    ensures { option_map (λ text. text.now) result
+        ≡ first_of id.now (rows_of (found_of values.now)) }
 {
     values.get_str(id)
 }

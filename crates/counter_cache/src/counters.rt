@@ -64,12 +64,14 @@ impl Counters {
         ensures geometry { IfOk result (λ counters. counters.tree.geometry ≡ geometry) }
         ensures root { IfOk result (λ counters. counters.tree.root ≡ no_tag) }
         ensures empty { IfOk result (λ counters. cached_pages counters ≡ []) }
-        ensures empty_nodes { IfOk result (λ counters. (level : ℕ) → cached_nodes counters.tree level ≡ []) }
+        ensures empty_nodes { IfOk result (λ counters. (level : ℕ) →
+            cached_nodes counters.tree level ≡ []) }
         ensures zeros { IfOk result (λ counters. (page : ℕ) → page < page_count geometry →
             counters_in counters tags.new.made page ≡ new_block) }
         ensures copies { IfOk result AreCopies }
         ensures holds { IfOk result (λ counters.
-            HoldsCounters (tags_of T.data_tag_of T.node_tag_of) counters (B.history bus.new) tags.new) }
+            HoldsCounters (tags_of T.data_tag_of T.node_tag_of) counters (B.history bus.new)
+            tags.new) }
 
         // Whether memory was there or not.
         ensures bus { bus.new ≡ bus.old }
@@ -94,7 +96,8 @@ impl Counters {
 
         ensures geometry { self.new.tree.geometry ≡ self.old.tree.geometry }
         ensures had { HadCounters (tags_of T.data_tag_of T.node_tag_of)
-            self.old (B.history bus.old) tags.old self.new (B.history bus.new) tags.new page (result_err result) }
+            self.old (B.history bus.old) tags.old self.new (B.history bus.new) tags.new page
+            (result_err result) }
         ensures answer { IfOk result (λ block. block ≡ counters_in self.new tags.new.made page) }
         ensures is_block { IfOk result IsCounterBlock }
         ensures accesses { MakesAccesses B.moved (tags_of T.data_tag_of T.node_tag_of tags.old)
@@ -121,7 +124,8 @@ impl Counters {
 
         ensures geometry { self.new.tree.geometry ≡ self.old.tree.geometry }
         ensures bumped { IsBumped (tags_of T.data_tag_of T.node_tag_of)
-            self.old (B.history bus.old) tags.old self.new (B.history bus.new) tags.new page place limit result }
+            self.old (B.history bus.old) tags.old self.new (B.history bus.new) tags.new page place
+            limit result }
         ensures copies { AreCopies self.new }
         ensures accesses { MakesAccesses B.moved (tags_of T.data_tag_of T.node_tag_of tags.old)
             bus.old tags.old bus.new tags.new (result_err result) }
@@ -163,32 +167,45 @@ impl Counters {
         requires bus { (B.history bus.old).geometry ≡ self.old.tree.geometry }
         requires engine { tags.old.geometry ≡ self.old.tree.geometry }
 
-        ensures has { Has (tags_of T.data_tag_of T.node_tag_of) (IsFetchPlace self.old.tree.geometry page)
-            self.old (B.history bus.old) tags.old self.new (B.history bus.new) tags.new (result_err result) }
-        ensures once { (B.history bus.new).accesses ≤ (B.history bus.old).accesses + counter_accesses self.old.tree.geometry.levels }
-        ensures few { length tags.new.made ≤ length tags.old.made + counter_accesses self.old.tree.geometry.levels }
-        ensures room { tags.old.room ≤ tags.new.room + counter_accesses self.old.tree.geometry.levels }
+        ensures has { Has (tags_of T.data_tag_of T.node_tag_of)
+            (IsFetchPlace self.old.tree.geometry page)
+            self.old (B.history bus.old) tags.old self.new (B.history bus.new) tags.new
+            (result_err result) }
+        ensures once { (B.history bus.new).accesses
+            ≤ (B.history bus.old).accesses + counter_accesses self.old.tree.geometry.levels }
+        ensures few { length tags.new.made
+            ≤ length tags.old.made + counter_accesses self.old.tree.geometry.levels }
+        ensures room { tags.old.room
+            ≤ tags.new.room + counter_accesses self.old.tree.geometry.levels }
         ensures no_rise { tags.new.room ≤ tags.old.room }
         ensures copies { AreCopies self.new }
-        ensures block { OnOk result (BlockHad (tags_of T.data_tag_of T.node_tag_of tags.old) self.old self.new tags.new.made page
+        ensures block { OnOk result (BlockHad (tags_of T.data_tag_of T.node_tag_of tags.old)
+            self.old self.new tags.new.made page
             tags.old.evidence tags.new.evidence) }
         ensures missed { OnErr result (BlockMissed self.old self.new page) }
-        ensures came { HoldsCounters (tags_of T.data_tag_of T.node_tag_of) self.old (B.history bus.old) tags.old →
+        ensures came { HoldsCounters (tags_of T.data_tag_of T.node_tag_of) self.old
+            (B.history bus.old) tags.old →
             tags.new.evidence ≡ None → OnOk result (BlocksCameUnlessHeld
             self.old (B.history bus.old) tags.old.made self.new (B.history bus.new) tags.new.made) }
         ensures hit { Contains (cached_pages self.old) page →
-            IsOk result × (B.history bus.new ≡ B.history bus.old) × (tags.new ≡ tags.old) × (self.new.tree ≡ self.old.tree) }
+            IsOk result × (B.history bus.new ≡ B.history bus.old) × (tags.new ≡ tags.old)
+            × (self.new.tree ≡ self.old.tree) }
         ensures accepted { (made_at : ℕ) (bytes tag : List ℕ) → tags.old.evidence ≡ None →
             tags.new.evidence ≡ Some (Collision 0 page made_at bytes tag) → IsOk result }
-        ensures read { HoldsCounters (tags_of T.data_tag_of T.node_tag_of) self.old (B.history bus.old) tags.old →
+        ensures read { HoldsCounters (tags_of T.data_tag_of T.node_tag_of) self.old
+            (B.history bus.old) tags.old →
             tags.new.evidence ≡ None → ¬ Contains (cached_pages self.old) page →
-            OnOk result (PathWasRead self.old.tree tags.old.made 0 page (B.history bus.old) (B.history bus.new)) }
+            OnOk result (PathWasRead self.old.tree tags.old.made 0 page (B.history bus.old)
+            (B.history bus.new)) }
         ensures parent { ¬ Contains (cached_pages self.old) page →
-            OnOk result (cached_node self.new.tree 1 (parent self.old.tree.geometry 0 page).1 ≢ None) }
+            OnOk result (cached_node self.new.tree 1 (parent self.old.tree.geometry 0 page).1
+            ≢ None) }
         ensures alone { (other : ℕ) → other ≢ page →
-            (B.history bus.new).reads (node_place 0 other) ≡ (B.history bus.old).reads (node_place 0 other) }
+            (B.history bus.new).reads (node_place 0 other)
+            ≡ (B.history bus.old).reads (node_place 0 other) }
         ensures once_clean { LeavesClean self.old page →
-            (B.history bus.new).accesses ≤ (B.history bus.old).accesses + path_accesses self.old.tree.geometry.levels }
+            (B.history bus.new).accesses
+            ≤ (B.history bus.old).accesses + path_accesses self.old.tree.geometry.levels }
         ensures written { OnlyLeavingIsMade self.old page tags.old.made tags.new.made }
         ensures accesses { MakesAccesses B.moved (tags_of T.data_tag_of T.node_tag_of tags.old)
             bus.old tags.old bus.new tags.new (result_err result) }
@@ -214,10 +231,14 @@ impl Counters {
         requires bus { (B.history bus.old).geometry ≡ self.old.tree.geometry }
         requires engine { tags.old.geometry ≡ self.old.tree.geometry }
 
-        ensures has { Has (tags_of T.data_tag_of T.node_tag_of) (IsNodeFrom self.old.tree.geometry 1)
-            self.old (B.history bus.old) tags.old self.new (B.history bus.new) tags.new (result_err result) }
-        ensures once { (B.history bus.new).accesses ≤ (B.history bus.old).accesses + path_accesses self.old.tree.geometry.levels }
-        ensures few { length tags.new.made ≤ length tags.old.made + path_accesses self.old.tree.geometry.levels }
+        ensures has { Has (tags_of T.data_tag_of T.node_tag_of)
+            (IsNodeFrom self.old.tree.geometry 1)
+            self.old (B.history bus.old) tags.old self.new (B.history bus.new) tags.new
+            (result_err result) }
+        ensures once { (B.history bus.new).accesses
+            ≤ (B.history bus.old).accesses + path_accesses self.old.tree.geometry.levels }
+        ensures few { length tags.new.made
+            ≤ length tags.old.made + path_accesses self.old.tree.geometry.levels }
         ensures room { tags.old.room ≤ tags.new.room + path_accesses self.old.tree.geometry.levels }
         ensures no_rise { tags.new.room ≤ tags.old.room }
         ensures absent { way_at self.new.blocks page ≡ None }
@@ -226,8 +247,10 @@ impl Counters {
         ensures room_for { OnOk result (HasRoom (set_at self.new.blocks page)) }
         ensures pages { last_node 0 page tags.new.made ≡ last_node 0 page tags.old.made }
         ensures no_block_read { (other : ℕ) →
-            (B.history bus.new).reads (node_place 0 other) ≡ (B.history bus.old).reads (node_place 0 other) }
-        ensures idle { LeavesClean self.old page → (B.history bus.new).accesses ≡ (B.history bus.old).accesses }
+            (B.history bus.new).reads (node_place 0 other)
+            ≡ (B.history bus.old).reads (node_place 0 other) }
+        ensures idle { LeavesClean self.old page →
+            (B.history bus.new).accesses ≡ (B.history bus.old).accesses }
         ensures written { OnlyLeavingIsMade self.old page tags.old.made tags.new.made }
         ensures accesses { MakesAccesses B.moved (tags_of T.data_tag_of T.node_tag_of tags.old)
             bus.old tags.old bus.new tags.new (result_err result) }
@@ -252,21 +275,32 @@ impl Counters {
         requires bus { (B.history bus.old).geometry ≡ self.old.tree.geometry }
         requires engine { tags.old.geometry ≡ self.old.tree.geometry }
 
-        ensures has { Has (tags_of T.data_tag_of T.node_tag_of) (IsNodeFrom self.old.tree.geometry 1)
-            self.old (B.history bus.old) tags.old self.new (B.history bus.new) tags.new (result_err result) }
-        ensures once { (B.history bus.new).accesses ≤ (B.history bus.old).accesses + path_accesses self.old.tree.geometry.levels }
-        ensures few { length tags.new.made ≤ length tags.old.made + path_accesses self.old.tree.geometry.levels }
+        ensures has { Has (tags_of T.data_tag_of T.node_tag_of)
+            (IsNodeFrom self.old.tree.geometry 1)
+            self.old (B.history bus.old) tags.old self.new (B.history bus.new) tags.new
+            (result_err result) }
+        ensures once { (B.history bus.new).accesses
+            ≤ (B.history bus.old).accesses + path_accesses self.old.tree.geometry.levels }
+        ensures few { length tags.new.made
+            ≤ length tags.old.made + path_accesses self.old.tree.geometry.levels }
         ensures room { tags.old.room ≤ tags.new.room + path_accesses self.old.tree.geometry.levels }
         ensures no_rise { tags.new.room ≤ tags.old.room }
         ensures blocks { self.new.blocks ≡ self.old.blocks }
-        ensures last { OnOk result (HoldsCounters (tags_of T.data_tag_of T.node_tag_of) self.new (B.history bus.new) tags.new →
-            tags.new.evidence ≡ None → victim.now.copy ≡ page_block victim.now.place tags.new.made) }
-        ensures others { (other : ℕ) → other ≢ victim.now.place → last_node 0 other tags.new.made ≡ last_node 0 other tags.old.made }
+        ensures last { OnOk result (HoldsCounters (tags_of T.data_tag_of T.node_tag_of) self.new
+            (B.history bus.new) tags.new →
+            tags.new.evidence ≡ None →
+            victim.now.copy ≡ page_block victim.now.place tags.new.made) }
+        ensures others { (other : ℕ) → other ≢ victim.now.place →
+            last_node 0 other tags.new.made ≡ last_node 0 other tags.old.made }
         ensures no_block_read { (other : ℕ) →
-            (B.history bus.new).reads (node_place 0 other) ≡ (B.history bus.old).reads (node_place 0 other) }
-        ensures idle { victim.now.changed ≡ false → (B.history bus.new).accesses ≡ (B.history bus.old).accesses }
-        ensures written { (level_blocks 0 tags.new.made ≡ level_blocks 0 tags.old.made) ⊎ ((victim.now.changed ≡ true)
-            × (level_blocks 0 tags.new.made ≡ level_blocks 0 tags.old.made ++ (victim.now.place, victim.now.copy) ∷ [])) }
+            (B.history bus.new).reads (node_place 0 other)
+            ≡ (B.history bus.old).reads (node_place 0 other) }
+        ensures idle { victim.now.changed ≡ false →
+            (B.history bus.new).accesses ≡ (B.history bus.old).accesses }
+        ensures written { (level_blocks 0 tags.new.made ≡ level_blocks 0 tags.old.made)
+            ⊎ ((victim.now.changed ≡ true)
+            × (level_blocks 0 tags.new.made
+            ≡ level_blocks 0 tags.old.made ++ (victim.now.place, victim.now.copy) ∷ [])) }
         ensures accesses { MakesAccesses B.moved (tags_of T.data_tag_of T.node_tag_of tags.old)
             bus.old tags.old bus.new tags.new (result_err result) }
     {

@@ -81,7 +81,8 @@ impl FileHeader {
     pub fn read(file: &[u8]) -> Result<FileHeader, ElfFault>
         ensures header { IfOk result (λ header. header ≡ file_header file.now) }
         ensures few { IfOk result (λ header. header.count ≤ 64) }
-        ensures inside { IfOk result (λ header. 1 ≤ header.count → header.table + 32 * header.count ≤ length file.now) }
+        ensures inside { IfOk result (λ header. 1 ≤ header.count → header.table + 32 * header.count
+            ≤ length file.now) }
         ensures first { first_holding (header_refusals file.now) ≡ result_err result }
     {
         if file.len() < FILE_HEADER_LEN {

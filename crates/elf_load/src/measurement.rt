@@ -27,7 +27,8 @@ pub fn measure(image: &Image) -> [u8; 32]
 // Hashes a segment's record.
 fn update_by_segment(hasher: &mut Sha256, segment: &Segment)
     requires { length segment.now.bytes < 2 ^ 32 }
-    ensures { (message : List ℕ) → Holds256 hasher.old message → Holds256 hasher.new (message ++ segment_record segment.now) }
+    ensures { (message : List ℕ) → Holds256 hasher.old message →
+        Holds256 hasher.new (message ++ segment_record segment.now) }
 {
     hasher.update(u32_bytes(segment.addr));
     hasher.update(u32_bytes(segment.bytes.len() as u32));

@@ -20,8 +20,10 @@ use std::alloc::Global;
 /// order of `ElfFault`; `NoMemory` may come at any file.
 pub fn parse(alloc: Global, file: &[u8], size: u32) -> Result<Image, ElfError>
     requires { IsMemorySize size }
-    ensures program { IfOk result (λ image. IsOkAnd (elf_program file.now size) (λ program. IsImageOf size program image)) }
-    ensures refused { (fault : ElfFault) → result ≡ Err (Fault fault) → elf_program file.now size ≡ Err fault }
+    ensures program { IfOk result
+        (λ image. IsOkAnd (elf_program file.now size) (λ program. IsImageOf size program image)) }
+    ensures refused { (fault : ElfFault) → result ≡ Err (Fault fault) →
+        elf_program file.now size ≡ Err fault }
 {
     let header = FileHeader::read(file)?;
     let headers = program_headers(alloc, file, &header)?;
@@ -41,7 +43,8 @@ fn check_program(
     file_len: usize,
     size: u32,
 ) -> Result<(), ElfFault>
-    ensures { first_holding (program_refusals file_len size header.now headers.now) ≡ result_err result }
+    ensures { first_holding (program_refusals file_len size header.now headers.now)
+        ≡ result_err result }
 {
     if any_interp(headers) {
         return Err(ElfFault::Interp);
@@ -63,7 +66,8 @@ fn segments_of(
     size: u32,
 ) -> Result<Vec<Segment>, NoMemory>
     requires { list_any (is_misfit (length file.now) size) headers.now ≡ false }
-    ensures { IfOk result (λ segments. segments.items ≡ map (segment_of file.now) (filter is_load headers.now)) }
+    ensures { IfOk result (λ segments. segments.items
+        ≡ map (segment_of file.now) (filter is_load headers.now)) }
 {
     let mut segments = Vec::new(alloc);
     for header in headers {
@@ -76,7 +80,8 @@ fn segments_of(
 
 // A segment, whose bytes are copied out of the file.
 fn segment_of(alloc: Global, file: &[u8], header: &ProgramHeader) -> Result<Segment, NoMemory>
-    requires { 0 < header.now.file_length → header.now.offset + header.now.file_length ≤ length file.now }
+    requires { 0 < header.now.file_length → header.now.offset + header.now.file_length
+        ≤ length file.now }
     ensures { IfOk result (λ segment. segment ≡ segment_of file.now header.now) }
 {
     let bytes = if header.file_length == 0 {
@@ -96,8 +101,10 @@ fn segment_of(alloc: Global, file: &[u8], header: &ProgramHeader) -> Result<Segm
 /// refused as `Segment` exactly where it is longer; `NoMemory` may come at any file.
 pub fn flat(alloc: Global, file: &[u8], size: u32) -> Result<Image, ElfError>
     requires { IsMemorySize size }
-    ensures program { IfOk result (λ image. IsOkAnd (flat_program file.now size) (λ program. IsImageOf size program image)) }
-    ensures refused { (fault : ElfFault) → result ≡ Err (Fault fault) → flat_program file.now size ≡ Err fault }
+    ensures program { IfOk result
+        (λ image. IsOkAnd (flat_program file.now size) (λ program. IsImageOf size program image)) }
+    ensures refused { (fault : ElfFault) → result ≡ Err (Fault fault) →
+        flat_program file.now size ≡ Err fault }
 {
     if file.len() > size as usize {
         return Err(ElfError::Fault(ElfFault::Segment));

@@ -30,7 +30,8 @@ const UNALIGNED: u32 = 1;
 pub fn write(alloc: Global, image: &Image) -> Result<Bytes, NoMemory>
     requires small { segment_bytes image.now.segments < 2 ^ 31 }
     ensures bytes { IfOk result (λ bytes. bytes ≡ spelled image.now) }
-    ensures read_back { IsOkAnd (elf_program (spelled image.now) image.now.size) (λ program. IsImageOf image.now.size program image.now) }
+    ensures read_back { IsOkAnd (elf_program (spelled image.now) image.now.size)
+        (λ program. IsImageOf image.now.size program image.now) }
 {
     let file = spell(alloc, image)?;
     Ok(Bytes::from_vec(file))

@@ -123,7 +123,8 @@ pub fn program_headers(
     header: &FileHeader,
 ) -> Result<Vec<ProgramHeader>, NoMemory>
     requires { 1 ≤ header.now.count → header.now.table + 32 * header.now.count ≤ length file.now }
-    ensures { IfOk result (λ headers. headers.items ≡ headers_from file.now header.now.table header.now.count) }
+    ensures { IfOk result (λ headers. headers.items
+        ≡ headers_from file.now header.now.table header.now.count) }
 {
     let table = header.table as usize;
     let mut headers = Vec::new(alloc);

@@ -164,7 +164,8 @@ impl Stale {
     }
 
     fn keep_line(&mut self, line: u32, sealed: &Sealed)
-        ensures { (layout : Layout) → IsTag layout sealed.now.tag → KeepsTags layout self.old → KeepsTags layout self.new }
+        ensures { (layout : Layout) → IsTag layout sealed.now.tag → KeepsTags layout self.old →
+            KeepsTags layout self.new }
     {
         self.count(Place::Line(line));
         if line == self.replay.line {

@@ -24,7 +24,8 @@ pub(crate) fn fetch<S: LineStore>(
     ensures copies { AreCopies (S.extent store.new) lines.new }
     ensures clean { OnOk result (S.stopped store.old ≡ None → S.sound store.new →
         AreClean (S.contents store.old) lines.old → AreClean (S.contents store.new) lines.new) }
-    ensures contents { S.stopped store.old ≡ None → S.sound store.new → AreClean (S.contents store.old) lines.old →
+    ensures contents { S.stopped store.old ≡ None → S.sound store.new →
+        AreClean (S.contents store.old) lines.old →
         contents_over (S.contents store.new) (S.extent store.new) lines.new
         ≡ contents_over (S.contents store.old) (S.extent store.old) lines.old }
     ensures latest { OnOk result (IsLatest lines.new line) }
@@ -32,16 +33,19 @@ pub(crate) fn fetch<S: LineStore>(
         (way_at lines.new other ≡ way_at lines.old other) ⊎ (way_at lines.new other ≡ None) }
 
     ensures goes_on { OnOk result (S.stopped store.new ≡ S.stopped store.old) }
-    ensures stops { S.stopped store.old ≡ None → IfErr result (λ stop. S.stopped store.new ≡ Some stop) }
+    ensures stops { S.stopped store.old ≡ None →
+        IfErr result (λ stop. S.stopped store.new ≡ Some stop) }
 
     ensures extent { S.extent store.new ≡ S.extent store.old }
     ensures lost { S.sound store.new → S.sound store.old }
-    ensures missed { IsMissed S.read_moved S.write_moved lines.old store.old line (λ bytes. bytes) (result_err result)
+    ensures missed { IsMissed S.read_moved S.write_moved lines.old store.old line (λ bytes. bytes)
+        (result_err result)
         lines.new store.new }
 
     ensures ways { OnOk result ((copy : List ℕ) → copy_at lines.new line ≡ Some copy →
         lines.new ≡ with_new (with_room lines.old line) line copy) }
-    ensures ways_left { IfErr result (λ stop. IsStoppedMiss S.read_moved S.write_moved (leaving lines.old line)
+    ensures ways_left { IfErr result (λ stop. IsStoppedMiss S.read_moved S.write_moved
+        (leaving lines.old line)
         lines.old store.old line stop lines.new store.new) }
 {
     make_room(store, lines, line)?;
@@ -58,7 +62,8 @@ fn make_room<S: LineStore>(store: &mut S, lines: &mut Cache<64>, line: u32) -> R
     ensures copies { AreCopies (S.extent store.new) lines.new }
     ensures clean { OnOk result (S.stopped store.old ≡ None → S.sound store.new →
         AreClean (S.contents store.old) lines.old → AreClean (S.contents store.new) lines.new) }
-    ensures contents { S.stopped store.old ≡ None → S.sound store.new → AreClean (S.contents store.old) lines.old →
+    ensures contents { S.stopped store.old ≡ None → S.sound store.new →
+        AreClean (S.contents store.old) lines.old →
         contents_over (S.contents store.new) (S.extent store.new) lines.new
         ≡ contents_over (S.contents store.old) (S.extent store.old) lines.old }
     ensures absent { way_at lines.new line ≡ None }
@@ -67,12 +72,15 @@ fn make_room<S: LineStore>(store: &mut S, lines: &mut Cache<64>, line: u32) -> R
         (way_at lines.new other ≡ way_at lines.old other) ⊎ (way_at lines.new other ≡ None) }
 
     ensures goes_on { OnOk result (S.stopped store.new ≡ S.stopped store.old) }
-    ensures stops { S.stopped store.old ≡ None → IfErr result (λ stop. S.stopped store.new ≡ Some stop) }
+    ensures stops { S.stopped store.old ≡ None →
+        IfErr result (λ stop. S.stopped store.new ≡ Some stop) }
 
     ensures extent { S.extent store.new ≡ S.extent store.old }
     ensures lost { S.sound store.new → S.sound store.old }
-    ensures moved { OnOk result (IsGone S.write_moved (leaving lines.old line) store.old store.new) }
-    ensures moved_in_part { IfErr result (λ stop. IsWritten S.write_moved (leaving lines.old line) stop store.old store.new) }
+    ensures moved { OnOk result (IsGone S.write_moved (leaving lines.old line) store.old
+        store.new) }
+    ensures moved_in_part { IfErr result (λ stop. IsWritten S.write_moved (leaving lines.old line)
+        stop store.old store.new) }
 
     ensures ways { OnOk result (lines.new ≡ with_room lines.old line) }
     ensures ways_left { OnErr result (lines.new ≡ lines.old) }
@@ -92,15 +100,19 @@ fn write_back<S: LineStore>(store: &mut S, way: &Way) -> Result<(), MemStop>
     ensures stored { S.stopped store.old ≡ None → S.sound store.new →
         OnOk result (S.contents store.new ≡ written way.now (S.contents store.old)) }
     ensures refused { S.stopped store.old ≡ None → S.sound store.new → OnErr result (
-        (S.contents store.new ≡ S.contents store.old) ⊎ (S.contents store.new ≡ written way.now (S.contents store.old))) }
+        (S.contents store.new ≡ S.contents store.old)
+        ⊎ (S.contents store.new ≡ written way.now (S.contents store.old))) }
 
     ensures goes_on { OnOk result (S.stopped store.new ≡ S.stopped store.old) }
-    ensures stops { S.stopped store.old ≡ None → IfErr result (λ stop. S.stopped store.new ≡ Some stop) }
+    ensures stops { S.stopped store.old ≡ None →
+        IfErr result (λ stop. S.stopped store.new ≡ Some stop) }
 
     ensures extent { S.extent store.new ≡ S.extent store.old }
     ensures lost { S.sound store.new → S.sound store.old }
-    ensures moved { OnOk result (IsGone S.write_moved (if_changed (Some way.now)) store.old store.new) }
-    ensures moved_in_part { IfErr result (λ stop. IsWritten S.write_moved (if_changed (Some way.now)) stop store.old store.new) }
+    ensures moved { OnOk result (IsGone S.write_moved (if_changed (Some way.now)) store.old
+        store.new) }
+    ensures moved_in_part { IfErr result
+        (λ stop. IsWritten S.write_moved (if_changed (Some way.now)) stop store.old store.new) }
 {
     if !way.changed {
         return Ok(());

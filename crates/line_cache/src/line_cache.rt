@@ -81,7 +81,8 @@ impl<S: LineStore> LineCache<S> {
         ensures store { result ≡ self.store }
 
         // Where no call stopped and the store can be relied on, a copy that was not changed is its line.
-        ensures clean { stopped S.stopped self ≡ None → S.sound self.store → AreClean (S.contents self.store) self.lines }
+        ensures clean { stopped S.stopped self ≡ None → S.sound self.store →
+            AreClean (S.contents self.store) self.lines }
     {
         let LineCache {
             store,
@@ -103,19 +104,23 @@ impl<S: LineStore> LineCache<S> {
         ensures latest { OnOk result (IsLatest self.new.lines line) }
 
         ensures goes_on { OnOk result (stopped S.stopped self.new ≡ stopped S.stopped self.old) }
-        ensures stops { stopped S.stopped self.old ≡ None → IfErr result (λ stop. stopped S.stopped self.new ≡ Some stop) }
-        ensures answered { S.stopped self.old.store ≡ None → IfErr result (λ stop. S.stopped self.new.store ≡ Some stop) }
+        ensures stops { stopped S.stopped self.old ≡ None →
+            IfErr result (λ stop. stopped S.stopped self.new ≡ Some stop) }
+        ensures answered { S.stopped self.old.store ≡ None →
+            IfErr result (λ stop. S.stopped self.new.store ≡ Some stop) }
 
         ensures extent { S.extent self.new.store ≡ S.extent self.old.store }
         ensures lost { S.sound self.new.store → S.sound self.old.store }
         ensures kept { self.new.stop ≡ option_or self.old.stop (result_err result) }
         ensures moved { IsStep S.read_moved S.write_moved self.old line self.new }
-        ensures missed { IsMissed S.read_moved S.write_moved self.old.lines self.old.store line (λ bytes. bytes)
+        ensures missed { IsMissed S.read_moved S.write_moved self.old.lines self.old.store line
+            (λ bytes. bytes)
             (result_err result) self.new.lines self.new.store }
 
         ensures ways { OnOk result ((copy : List ℕ) → copy_at self.new.lines line ≡ Some copy →
             self.new.lines ≡ brought self.old.lines line copy) }
-        ensures ways_left { IfErr result (λ stop. IsStoppedMiss S.read_moved S.write_moved (leaving self.old.lines line)
+        ensures ways_left { IfErr result (λ stop. IsStoppedMiss S.read_moved S.write_moved
+            (leaving self.old.lines line)
             self.old.lines self.old.store line stop self.new.lines self.new.store) }
     {
         match fetch(&mut self.store, &mut self.lines, line) {
@@ -157,31 +162,39 @@ impl<S: LineStore> Ram for LineCache<S> {
             contents S.contents S.extent self.new ≡ contents S.contents S.extent self.old }
 
         ensures goes_on { OnOk result (stopped S.stopped self.new ≡ stopped S.stopped self.old) }
-        ensures stops { stopped S.stopped self.old ≡ None → IfErr result (λ stop. stopped S.stopped self.new ≡ Some stop) }
+        ensures stops { stopped S.stopped self.old ≡ None →
+            IfErr result (λ stop. stopped S.stopped self.new ≡ Some stop) }
 
         ensures extent { 64 * S.extent self.new.store ≡ 64 * S.extent self.old.store }
         ensures lost { S.sound self.new.store → S.sound self.old.store }
         ensures moved { IsMoved S.read_moved S.write_moved self.old (line_of addr ∷ []) self.new }
 
         // A line that is held is not looked up in the store. A stop is what the store answered.
-        ensures hit { Contains (held_lines self.old) (line_of addr) → IsOk result × (self.new.store ≡ self.old.store)
+        ensures hit { Contains (held_lines self.old) (line_of addr) → IsOk result
+            × (self.new.store ≡ self.old.store)
             × (way_at self.new.lines (line_of addr) ≡ way_at self.old.lines (line_of addr)) }
-        ensures answered { S.stopped self.old.store ≡ None → IfErr result (λ stop. S.stopped self.new.store ≡ Some stop) }
+        ensures answered { S.stopped self.old.store ≡ None →
+            IfErr result (λ stop. S.stopped self.new.store ≡ Some stop) }
 
         // Any other line is read, once the changed line that goes out for it was written. The first stop is kept.
-        ensures missed { ¬ Contains (held_lines self.old) (line_of addr) → IsMissed S.read_moved S.write_moved
-            self.old.lines self.old.store (line_of addr) (λ bytes. bytes) (result_err result) self.new.lines self.new.store }
+        ensures missed { ¬ Contains (held_lines self.old) (line_of addr) →
+            IsMissed S.read_moved S.write_moved
+            self.old.lines self.old.store (line_of addr) (λ bytes. bytes) (result_err result)
+            self.new.lines self.new.store }
         ensures kept { self.new.stop ≡ option_or self.old.stop (result_err result) }
 
         // Sound or not, the number is the one in the copy that the line has after the call.
-        ensures copy { IfOk result (λ n. (copy : List ℕ) → copy_at self.new.lines (line_of addr) ≡ Some copy →
+        ensures copy { IfOk result (λ n. (copy : List ℕ) → copy_at self.new.lines (line_of addr)
+            ≡ Some copy →
             n ≡ number_at copy (addr % 64) width) }
 
         // The line is the most recently used one of its set, and the one that goes out for it is the least recently used. Where
         // the write of that one stops, it stays.
-        ensures ways { OnOk result ((copy : List ℕ) × (copy_at self.new.lines (line_of addr) ≡ Some copy)
+        ensures ways { OnOk result ((copy : List ℕ)
+            × (copy_at self.new.lines (line_of addr) ≡ Some copy)
             × (self.new.lines ≡ brought self.old.lines (line_of addr) copy)) }
-        ensures ways_left { IfErr result (λ stop. IsStoppedMiss S.read_moved S.write_moved (leaving self.old.lines (line_of addr))
+        ensures ways_left { IfErr result (λ stop. IsStoppedMiss S.read_moved S.write_moved
+            (leaving self.old.lines (line_of addr))
             self.old.lines self.old.store (line_of addr) stop self.new.lines self.new.store) }
     {
         let (line, at) = (addr / LINE_LEN, (addr % LINE_LEN) as usize);
@@ -198,13 +211,17 @@ impl<S: LineStore> Ram for LineCache<S> {
         requires aligned { addr % width_bytes width ≡ 0 }
 
         ensures stored { stopped S.stopped self.old ≡ None → S.sound self.new.store →
-            OnOk result (contents S.contents S.extent self.new ≡ with_number (contents S.contents S.extent self.old) addr width value) }
-        ensures refused { stopped S.stopped self.old ≡ None → S.sound self.new.store → OnErr result (
+            OnOk result (contents S.contents S.extent self.new
+            ≡ with_number (contents S.contents S.extent self.old) addr width value) }
+        ensures refused { stopped S.stopped self.old ≡ None → S.sound self.new.store →
+            OnErr result (
             (contents S.contents S.extent self.new ≡ contents S.contents S.extent self.old)
-            ⊎ (contents S.contents S.extent self.new ≡ with_number (contents S.contents S.extent self.old) addr width value)) }
+            ⊎ (contents S.contents S.extent self.new
+            ≡ with_number (contents S.contents S.extent self.old) addr width value)) }
 
         ensures goes_on { OnOk result (stopped S.stopped self.new ≡ stopped S.stopped self.old) }
-        ensures stops { stopped S.stopped self.old ≡ None → IfErr result (λ stop. stopped S.stopped self.new ≡ Some stop) }
+        ensures stops { stopped S.stopped self.old ≡ None →
+            IfErr result (λ stop. stopped S.stopped self.new ≡ Some stop) }
 
         ensures extent { 64 * S.extent self.new.store ≡ 64 * S.extent self.old.store }
         ensures lost { S.sound self.new.store → S.sound self.old.store }
@@ -212,25 +229,33 @@ impl<S: LineStore> Ram for LineCache<S> {
 
         // A store that stops changes no byte.
         ensures unchanged { stopped S.stopped self.old ≡ None → S.sound self.new.store →
-            OnErr result (contents S.contents S.extent self.new ≡ contents S.contents S.extent self.old) }
+            OnErr result (contents S.contents S.extent self.new
+            ≡ contents S.contents S.extent self.old) }
 
         // A line that is held is not looked up in the store. A stop is what the store answered.
-        ensures hit { Contains (held_lines self.old) (line_of addr) → IsOk result × (self.new.store ≡ self.old.store)
+        ensures hit { Contains (held_lines self.old) (line_of addr) → IsOk result
+            × (self.new.store ≡ self.old.store)
             × ((copy : List ℕ) → copy_at self.old.lines (line_of addr) ≡ Some copy →
-            copy_at self.new.lines (line_of addr) ≡ Some (with_number copy (addr % 64) width value)) }
-        ensures answered { S.stopped self.old.store ≡ None → IfErr result (λ stop. S.stopped self.new.store ≡ Some stop) }
+            copy_at self.new.lines (line_of addr)
+            ≡ Some (with_number copy (addr % 64) width value)) }
+        ensures answered { S.stopped self.old.store ≡ None →
+            IfErr result (λ stop. S.stopped self.new.store ≡ Some stop) }
 
         // Any other line is read, once the changed line that goes out for it was written. The first stop is kept.
-        ensures missed { ¬ Contains (held_lines self.old) (line_of addr) → IsMissed S.read_moved S.write_moved
-            self.old.lines self.old.store (line_of addr) (λ bytes. with_number bytes (addr % 64) width value) (result_err result)
+        ensures missed { ¬ Contains (held_lines self.old) (line_of addr) →
+            IsMissed S.read_moved S.write_moved
+            self.old.lines self.old.store (line_of addr)
+            (λ bytes. with_number bytes (addr % 64) width value) (result_err result)
             self.new.lines self.new.store }
         ensures kept { self.new.stop ≡ option_or self.old.stop (result_err result) }
 
         // The line is the most recently used one of its set and marked, with the number in its copy. The one that goes out for
         // it is the least recently used. Where the write of that one stops, it stays.
-        ensures ways { OnOk result ((copy : List ℕ) × (self.new.lines ≡ with_changed (brought self.old.lines (line_of addr) copy)
+        ensures ways { OnOk result ((copy : List ℕ)
+            × (self.new.lines ≡ with_changed (brought self.old.lines (line_of addr) copy)
             (line_of addr) (with_number copy (addr % 64) width value))) }
-        ensures ways_left { IfErr result (λ stop. IsStoppedMiss S.read_moved S.write_moved (leaving self.old.lines (line_of addr))
+        ensures ways_left { IfErr result (λ stop. IsStoppedMiss S.read_moved S.write_moved
+            (leaving self.old.lines (line_of addr))
             self.old.lines self.old.store (line_of addr) stop self.new.lines self.new.store) }
     {
         let (line, at) = (addr / LINE_LEN, (addr % LINE_LEN) as usize);

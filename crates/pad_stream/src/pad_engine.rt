@@ -64,8 +64,10 @@ impl PadEngine {
         counter: Counter,
         plain: &[u8; 64],
     ) -> Result<[u8; 64], NoMemory>
-        ensures cipher { IfOk result (λ cipher. cipher ≡ cipher_of self.old.key line counter plain.now) }
-        ensures undone { IfOk result (λ cipher. cipher_of self.old.key line counter cipher ≡ plain.now) }
+        ensures cipher { IfOk result (λ cipher. cipher
+            ≡ cipher_of self.old.key line counter plain.now) }
+        ensures undone { IfOk result (λ cipher. cipher_of self.old.key line counter cipher
+            ≡ plain.now) }
         ensures used { OnOk result (self.new ≡ after_encrypt line counter self.old) }
 
         ensures sure { 0 < self.old.room → IsOk result }

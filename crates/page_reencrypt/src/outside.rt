@@ -78,66 +78,100 @@ impl<B: Bus, T: Tagger> Outside<B, T> {
     ) -> Result<CounterBlock, MemStop>
         requires inside { page < page_count counters.old.tree.geometry }
         requires geometry { counters.old.tree.geometry ≡ self.old.engine.geometry }
-        requires consistent { AreConsistent (terms_of B.history B.moved T.data_tag_of T.node_tag_of self.old) self.old }
-        requires holds_last { HaveLast (terms_of B.history B.moved T.data_tag_of T.node_tag_of self.old) self.old }
-        requires nodes_hold_last { HaveLastNodes (terms_of B.history B.moved T.data_tag_of T.node_tag_of self.old) self.old }
+        requires consistent { AreConsistent (terms_of B.history B.moved T.data_tag_of T.node_tag_of
+            self.old) self.old }
+        requires holds_last { HaveLast (terms_of B.history B.moved T.data_tag_of T.node_tag_of
+            self.old) self.old }
+        requires nodes_hold_last { HaveLastNodes
+            (terms_of B.history B.moved T.data_tag_of T.node_tag_of self.old) self.old }
 
-        ensures step { IsNodeStep (terms_of B.history B.moved T.data_tag_of T.node_tag_of self.old) self.old self.new (result_err result) }
-        ensures had { HadCounters (tags_of T.data_tag_of T.node_tag_of) counters.old (B.history self.old.bus) self.old.engine
+        ensures step { IsNodeStep (terms_of B.history B.moved T.data_tag_of T.node_tag_of self.old)
+            self.old self.new (result_err result) }
+        ensures had { HadCounters (tags_of T.data_tag_of T.node_tag_of) counters.old
+            (B.history self.old.bus) self.old.engine
             counters.new (B.history self.new.bus) self.new.engine page (result_err result) }
-        ensures answer { IfOk result (λ block. block ≡ counters_in counters.new self.new.engine.made page) }
+        ensures answer { IfOk result (λ block. block
+            ≡ counters_in counters.new self.new.engine.made page) }
         ensures pads { self.new.pads ≡ self.old.pads }
         ensures geometry { counters.new.tree.geometry ≡ counters.old.tree.geometry }
-        ensures once { (B.history self.new.bus).accesses ≤ (B.history self.old.bus).accesses + counter_accesses self.old.engine.geometry.levels }
+        ensures once { (B.history self.new.bus).accesses
+            ≤ (B.history self.old.bus).accesses + counter_accesses self.old.engine.geometry.levels }
 
         // Where the counters fit or there is evidence, they still do, and the counters are the current ones.
-        ensures fits { CountersFit (terms_of B.history B.moved T.data_tag_of T.node_tag_of self.old) self.old counters.old →
-            OnOk result (CountersFit (terms_of B.history B.moved T.data_tag_of T.node_tag_of self.old) self.new counters.new) }
-        ensures block { CountersFit (terms_of B.history B.moved T.data_tag_of T.node_tag_of self.old) self.old counters.old →
-            self.new.engine.evidence ≡ None → IfOk result (λ block. block ≡ counters_in counters.old self.old.engine.made page) }
+        ensures fits { CountersFit (terms_of B.history B.moved T.data_tag_of T.node_tag_of self.old)
+            self.old counters.old →
+            OnOk result (CountersFit (terms_of B.history B.moved T.data_tag_of T.node_tag_of
+            self.old) self.new counters.new) }
+        ensures block { CountersFit (terms_of B.history B.moved T.data_tag_of T.node_tag_of
+            self.old) self.old counters.old →
+            self.new.engine.evidence ≡ None →
+            IfOk result (λ block. block ≡ counters_in counters.old self.old.engine.made page) }
         ensures is_block { IfOk result IsCounterBlock }
-        ensures same { CountersFit (terms_of B.history B.moved T.data_tag_of T.node_tag_of self.old) self.old counters.old →
-            self.new.engine.evidence ≡ None → SameCounters counters.old self.old.engine.made counters.new self.new.engine.made }
+        ensures same { CountersFit (terms_of B.history B.moved T.data_tag_of T.node_tag_of self.old)
+            self.old counters.old →
+            self.new.engine.evidence ≡ None →
+            SameCounters counters.old self.old.engine.made counters.new self.new.engine.made }
 
         // A counter block that goes out is made with the counters of its page's lines.
         ensures nodes { AreOfPages self.old.engine.geometry counters.old →
-            CountersFit (terms_of B.history B.moved T.data_tag_of T.node_tag_of self.old) self.old counters.old →
-            CountersSay (terms_of B.history B.moved T.data_tag_of T.node_tag_of self.old) self.old counters.old →
-            NodesSayStill (terms_of B.history B.moved T.data_tag_of T.node_tag_of self.old) self.old self.new }
+            CountersFit (terms_of B.history B.moved T.data_tag_of T.node_tag_of self.old) self.old
+            counters.old →
+            CountersSay (terms_of B.history B.moved T.data_tag_of T.node_tag_of self.old) self.old
+            counters.old →
+            NodesSayStill (terms_of B.history B.moved T.data_tag_of T.node_tag_of self.old) self.old
+            self.new }
 
         // A page without a copy has its block read from its place, and so are the nodes above it up to the lowest one that has a copy,
         // but for those that were never made, and has a copy then. One with a copy makes no access.
-        ensures read { CountersFit (terms_of B.history B.moved T.data_tag_of T.node_tag_of self.old) self.old counters.old →
+        ensures read { CountersFit (terms_of B.history B.moved T.data_tag_of T.node_tag_of self.old)
+            self.old counters.old →
             self.new.engine.evidence ≡ None → ¬ Contains (cached_pages counters.old) page →
-            OnOk result (PathWasRead counters.old.tree self.old.engine.made 0 page (B.history self.old.bus) (B.history self.new.bus)) }
+            OnOk result (PathWasRead counters.old.tree self.old.engine.made 0 page
+            (B.history self.old.bus) (B.history self.new.bus)) }
         ensures idle { Contains (cached_pages counters.old) page →
-            (B.history self.new.bus ≡ B.history self.old.bus) × (self.new.engine ≡ self.old.engine) }
+            (B.history self.new.bus ≡ B.history self.old.bus)
+            × (self.new.engine ≡ self.old.engine) }
         ensures latest { OnOk result (IsLatest counters.new.blocks page) }
         ensures copied { AreCopies counters.new }
         ensures few_copies { KeepsFew counters.old counters.new }
-        ensures copies { CountersFit (terms_of B.history B.moved T.data_tag_of T.node_tag_of self.old) self.old counters.old →
+        ensures copies { CountersFit (terms_of B.history B.moved T.data_tag_of T.node_tag_of
+            self.old) self.old counters.old →
             self.new.engine.evidence ≡ None →
             CopiesCame page (B.history self.old.bus) self.old.engine.made counters.old
             (B.history self.new.bus) self.new.engine.made counters.new (result_err result) }
-        ensures unread { CountersFit (terms_of B.history B.moved T.data_tag_of T.node_tag_of self.old) self.old counters.old →
-            self.new.engine.evidence ≡ None → UnmadeAreUnread (B.history self.old.bus) self.new.engine.made (B.history self.new.bus) }
+        ensures unread { CountersFit (terms_of B.history B.moved T.data_tag_of T.node_tag_of
+            self.old) self.old counters.old →
+            self.new.engine.evidence ≡ None →
+            UnmadeAreUnread (B.history self.old.bus) self.new.engine.made (B.history self.new.bus) }
         ensures pages { AreOfPages self.old.engine.geometry counters.new }
 
         // A false answer is shown as evidence or taken for tampering.
-        ensures accounted { CountersFit (terms_of B.history B.moved T.data_tag_of T.node_tag_of self.old) self.old counters.old →
-            AreAccounted (terms_of B.history B.moved T.data_tag_of T.node_tag_of self.old) self.old None →
-            AreAccounted (terms_of B.history B.moved T.data_tag_of T.node_tag_of self.old) self.new (result_err result) }
-        ensures shows { CountersFit (terms_of B.history B.moved T.data_tag_of T.node_tag_of self.old) self.old counters.old →
-            ShowsLies (terms_of B.history B.moved T.data_tag_of T.node_tag_of self.old) self.old self.new }
-        ensures found { (evidence : Evidence) → self.old.engine.evidence ≡ None → self.new.engine.evidence ≡ Some evidence →
+        ensures accounted { CountersFit (terms_of B.history B.moved T.data_tag_of T.node_tag_of
+            self.old) self.old counters.old →
+            AreAccounted (terms_of B.history B.moved T.data_tag_of T.node_tag_of self.old) self.old
+            None →
+            AreAccounted (terms_of B.history B.moved T.data_tag_of T.node_tag_of self.old) self.new
+            (result_err result) }
+        ensures shows { CountersFit (terms_of B.history B.moved T.data_tag_of T.node_tag_of
+            self.old) self.old counters.old →
+            ShowsLies (terms_of B.history B.moved T.data_tag_of T.node_tag_of self.old) self.old
+            self.new }
+        ensures found { (evidence : Evidence) → self.old.engine.evidence ≡ None →
+            self.new.engine.evidence ≡ Some evidence →
             IsFetchPlace self.old.engine.geometry page (evidence_place evidence) }
         ensures accepted { (made_at : ℕ) (bytes tag : List ℕ) → self.old.engine.evidence ≡ None →
-            self.new.engine.evidence ≡ Some (Collision 0 page made_at bytes tag) → result ≡ Ok (block_of bytes) }
-        ensures checked { (block : CounterBlockView) → result ≡ Ok block → AreHad (tags_of T.data_tag_of T.node_tag_of self.old.engine)
-            counters.old counters.new self.new.engine.made page self.old.engine.evidence self.new.engine.evidence block }
-        ensures tampered { (place : Place) → result ≡ Err (Tampered place) → IsFetchPlace self.old.engine.geometry page place
-            × (CountersFit (terms_of B.history B.moved T.data_tag_of T.node_tag_of self.old) self.old counters.old →
-            self.old.engine.evidence ≡ None → Rose (B.history self.old.bus).lies (B.history self.new.bus).lies) }
+            self.new.engine.evidence ≡ Some (Collision 0 page made_at bytes tag) →
+            result ≡ Ok (block_of bytes) }
+        ensures checked { (block : CounterBlockView) → result ≡ Ok block →
+            AreHad (tags_of T.data_tag_of T.node_tag_of self.old.engine)
+            counters.old counters.new self.new.engine.made page self.old.engine.evidence
+            self.new.engine.evidence block }
+        ensures tampered { (place : Place) → result ≡ Err (Tampered place) →
+            IsFetchPlace self.old.engine.geometry page place
+            × (CountersFit (terms_of B.history B.moved T.data_tag_of T.node_tag_of self.old)
+            self.old counters.old →
+            self.old.engine.evidence ≡ None →
+            Rose (B.history self.old.bus).lies (B.history self.new.bus).lies) }
         ensures unspent { (spent : ℕ) → result ≢ Err (Spent spent) }
     {
         counters.get(&mut self.bus, &mut self.tags, page)
@@ -147,18 +181,25 @@ impl<B: Bus, T: Tagger> Outside<B, T> {
     // holds, checked and decrypted. The counter is the line's last, unless there is evidence.
     pub(crate) fn read(&mut self, line: u32, counter: Counter) -> Result<[u8; 64], MemStop>
         requires inside { line < line_count self.old.engine.geometry }
-        requires consistent { AreConsistent (terms_of B.history B.moved T.data_tag_of T.node_tag_of self.old) self.old }
-        requires holds_last { HaveLast (terms_of B.history B.moved T.data_tag_of T.node_tag_of self.old) self.old }
-        requires risen { HaveRisen (terms_of B.history B.moved T.data_tag_of T.node_tag_of self.old) self.old }
-        requires counter { self.old.engine.evidence ≡ None → HasCounter self.old.pads.used line counter }
+        requires consistent { AreConsistent (terms_of B.history B.moved T.data_tag_of T.node_tag_of
+            self.old) self.old }
+        requires holds_last { HaveLast (terms_of B.history B.moved T.data_tag_of T.node_tag_of
+            self.old) self.old }
+        requires risen { HaveRisen (terms_of B.history B.moved T.data_tag_of T.node_tag_of self.old)
+            self.old }
+        requires counter { self.old.engine.evidence ≡ None →
+            HasCounter self.old.pads.used line counter }
 
         ensures value { self.new.engine.evidence ≡ None →
             IfOk result (λ bytes. bytes ≡ line_bytes self.old.pads.key self.old.engine.made line) }
-        ensures fresh { self.old.engine.evidence ≡ None → IsFresh line self.old.pads.used → IsOk result × (self.new ≡ self.old) }
+        ensures fresh { self.old.engine.evidence ≡ None → IsFresh line self.old.pads.used →
+            IsOk result × (self.new ≡ self.old) }
 
         // It is a read of the line's place at most, and nothing is encrypted, tagged or written.
-        ensures moves { StepMoves (B.history self.old.bus) self.old.engine (B.history self.new.bus) self.new.engine }
-        ensures accesses { MakesAccesses B.moved (tags_of T.data_tag_of T.node_tag_of self.old.engine)
+        ensures moves { StepMoves (B.history self.old.bus) self.old.engine (B.history self.new.bus)
+            self.new.engine }
+        ensures accesses { MakesAccesses B.moved
+            (tags_of T.data_tag_of T.node_tag_of self.old.engine)
             self.old.bus self.old.engine self.new.bus self.new.engine (result_err result) }
         ensures unmade { self.new.engine.made ≡ self.old.engine.made }
         ensures room { self.new.engine.room ≡ self.old.engine.room }
@@ -167,26 +208,39 @@ impl<B: Bus, T: Tagger> Outside<B, T> {
         ensures counted { AreCounted (B.history self.old.bus) (B.history self.new.bus) 0 }
         ensures once { (B.history self.new.bus).accesses ≤ (B.history self.old.bus).accesses + 1 }
         ensures alone { (other : ℕ) → other ≢ line →
-            (B.history self.new.bus).reads (line_place other) ≡ (B.history self.old.bus).reads (line_place other) }
+            (B.history self.new.bus).reads (line_place other)
+            ≡ (B.history self.old.bus).reads (line_place other) }
         ensures nodes { (level index : ℕ) →
-            (B.history self.new.bus).reads (node_place level index) ≡ (B.history self.old.bus).reads (node_place level index) }
-        ensures rose { self.old.engine.evidence ≡ None → result ≢ Err no_memory → IsFresh line self.old.pads.used
-            ⊎ Rose ((B.history self.old.bus).reads (line_place line)) ((B.history self.new.bus).reads (line_place line)) }
+            (B.history self.new.bus).reads (node_place level index)
+            ≡ (B.history self.old.bus).reads (node_place level index) }
+        ensures rose { self.old.engine.evidence ≡ None → result ≢ Err no_memory →
+            IsFresh line self.old.pads.used
+            ⊎ Rose ((B.history self.old.bus).reads (line_place line))
+            ((B.history self.new.bus).reads (line_place line)) }
 
         // A false answer is shown as evidence or taken for tampering.
-        ensures accounted { AreAccounted (terms_of B.history B.moved T.data_tag_of T.node_tag_of self.old) self.old None →
-            AreAccounted (terms_of B.history B.moved T.data_tag_of T.node_tag_of self.old) self.new (result_err result) }
-        ensures shows { ShowsLies (terms_of B.history B.moved T.data_tag_of T.node_tag_of self.old) self.old self.new }
-        ensures found { (evidence : Evidence) → self.old.engine.evidence ≡ None → self.new.engine.evidence ≡ Some evidence →
+        ensures accounted { AreAccounted (terms_of B.history B.moved T.data_tag_of T.node_tag_of
+            self.old) self.old None →
+            AreAccounted (terms_of B.history B.moved T.data_tag_of T.node_tag_of self.old) self.new
+            (result_err result) }
+        ensures shows { ShowsLies (terms_of B.history B.moved T.data_tag_of T.node_tag_of self.old)
+            self.old self.new }
+        ensures found { (evidence : Evidence) → self.old.engine.evidence ≡ None →
+            self.new.engine.evidence ≡ Some evidence →
             evidence_place evidence ≡ line_place line }
-        ensures under { IfOk result (IsReadUnder (tags_of T.data_tag_of T.node_tag_of self.old.engine) self.old.pads.key line counter
+        ensures under { IfOk result
+            (IsReadUnder (tags_of T.data_tag_of T.node_tag_of self.old.engine) self.old.pads.key
+            line counter
             (B.history self.new.bus)) }
-        ensures accepted { (at : ℕ) (under : Counter) (sealed : Sealed) (made_count : ℕ) → self.old.engine.evidence ≡ None →
+        ensures accepted { (at : ℕ) (under : Counter) (sealed : Sealed) (made_count : ℕ) →
+            self.old.engine.evidence ≡ None →
             self.new.engine.evidence ≡ Some (Forgery at under sealed made_count) →
             (at ≡ line) × (made_count ≡ length self.new.engine.made)
             × (result ≡ Ok (cipher_of self.old.pads.key line under sealed.cipher)) }
-        ensures tampered { (place : Place) → result ≡ Err (Tampered place) → (place ≡ line_place line)
-            × (self.old.engine.evidence ≡ None → Rose (B.history self.old.bus).lies (B.history self.new.bus).lies) }
+        ensures tampered { (place : Place) → result ≡ Err (Tampered place) →
+            (place ≡ line_place line)
+            × (self.old.engine.evidence ≡ None →
+            Rose (B.history self.old.bus).lies (B.history self.new.bus).lies) }
         ensures unspent { (page : ℕ) → result ≢ Err (Spent page) }
     {
         if counter == NEVER_WRITTEN {
@@ -210,21 +264,28 @@ impl<B: Bus, T: Tagger> Outside<B, T> {
 
         ensures used { self.new.pads ≡ after_encrypt line counter self.old.pads }
         ensures made { self.new.engine
-            ≡ after_make (Line line counter (cipher_of self.old.pads.key line counter bytes.now)) self.old.engine }
-        ensures undone { cipher_of self.old.pads.key line counter (cipher_of self.old.pads.key line counter bytes.now) ≡ bytes.now }
+            ≡ after_make (Line line counter (cipher_of self.old.pads.key line counter bytes.now))
+            self.old.engine }
+        ensures undone { cipher_of self.old.pads.key line counter
+            (cipher_of self.old.pads.key line counter bytes.now) ≡ bytes.now }
         ensures ok { OnOk result (B.history self.new.bus ≡ after_write (line_place line)
-            (sealed_line (tags_of T.data_tag_of T.node_tag_of self.old.engine) line counter (cipher_of self.old.pads.key line counter bytes.now))
+            (sealed_line (tags_of T.data_tag_of T.node_tag_of self.old.engine) line counter
+            (cipher_of self.old.pads.key line counter bytes.now))
             (B.history self.old.bus)) }
         ensures err { OnErr result (B.history self.new.bus ≡ B.history self.old.bus) }
 
-        ensures moves { StepMoves (B.history self.old.bus) self.old.engine (B.history self.new.bus) self.new.engine }
-        ensures accesses { MakesAccesses B.moved (tags_of T.data_tag_of T.node_tag_of self.old.engine)
+        ensures moves { StepMoves (B.history self.old.bus) self.old.engine (B.history self.new.bus)
+            self.new.engine }
+        ensures accesses { MakesAccesses B.moved
+            (tags_of T.data_tag_of T.node_tag_of self.old.engine)
             self.old.bus self.old.engine self.new.bus self.new.engine (want_of result) }
 
         // No answer was false.
         ensures honest { (used more : List (ℕ × Counter)) →
-            IsAccounted (tags_of T.data_tag_of T.node_tag_of self.old.engine) used self.old.engine.made (B.history self.old.bus) None self.old.engine.evidence →
-            IsAccounted (tags_of T.data_tag_of T.node_tag_of self.old.engine) more self.new.engine.made (B.history self.new.bus) None self.new.engine.evidence }
+            IsAccounted (tags_of T.data_tag_of T.node_tag_of self.old.engine) used
+            self.old.engine.made (B.history self.old.bus) None self.old.engine.evidence →
+            IsAccounted (tags_of T.data_tag_of T.node_tag_of self.old.engine) more
+            self.new.engine.made (B.history self.new.bus) None self.new.engine.evidence }
     {
         let cipher = self.pads.encrypt(line, counter, bytes)?;
         write_line(&mut self.bus, &mut self.tags, line, counter, &cipher)
@@ -242,19 +303,26 @@ impl<B: Bus, T: Tagger> Outside<B, T> {
     ) -> Result<(), MemStop>
         requires inside { at < line_count self.old.engine.geometry }
         requires of_page { page_of at ≡ page_of line }
-        requires consistent { AreConsistent (terms_of B.history B.moved T.data_tag_of T.node_tag_of self.old) self.old }
-        requires holds_last { HaveLast (terms_of B.history B.moved T.data_tag_of T.node_tag_of self.old) self.old }
-        requires risen { HaveRisen (terms_of B.history B.moved T.data_tag_of T.node_tag_of self.old) self.old }
-        requires counter { self.old.engine.evidence ≡ None → HasCounter self.old.pads.used at old × IsBefore old counter }
+        requires consistent { AreConsistent (terms_of B.history B.moved T.data_tag_of T.node_tag_of
+            self.old) self.old }
+        requires holds_last { HaveLast (terms_of B.history B.moved T.data_tag_of T.node_tag_of
+            self.old) self.old }
+        requires risen { HaveRisen (terms_of B.history B.moved T.data_tag_of T.node_tag_of self.old)
+            self.old }
+        requires counter { self.old.engine.evidence ≡ None → HasCounter self.old.pads.used at old
+            × IsBefore old counter }
         requires room { 0 < self.old.engine.room }
         requires pads_room { 0 < self.old.pads.room }
 
-        ensures sealed { AreSealedInOrder (terms_of B.history B.moved T.data_tag_of T.node_tag_of self.old)
-            (record { line = line; bytes = bytes.now; counter = counter }) self.old (at ∷ []) self.new (result_err result) }
+        ensures sealed { AreSealedInOrder (terms_of B.history B.moved T.data_tag_of T.node_tag_of
+            self.old)
+            (record { line = line; bytes = bytes.now; counter = counter }) self.old (at ∷ [])
+            self.new (result_err result) }
         ensures accepted { Accepts self.old self.new (λ found made_count.
             (found ≡ at) × (at ≢ line) × (made_count ≡ length self.old.engine.made)) }
         ensures once { (B.history self.new.bus).accesses ≤ (B.history self.old.bus).accesses + 2 }
-        ensures own { at ≡ line → (B.history self.new.bus).accesses ≤ (B.history self.old.bus).accesses + 1 }
+        ensures own { at ≡ line → (B.history self.new.bus).accesses
+            ≤ (B.history self.old.bus).accesses + 1 }
     {
         let plain = if at == line {
             *bytes
@@ -275,18 +343,24 @@ impl<B: Bus, T: Tagger> Outside<B, T> {
         bytes: &[u8; 64],
     ) -> Result<(), MemStop>
         requires inside { line < line_count self.old.engine.geometry }
-        requires consistent { AreConsistent (terms_of B.history B.moved T.data_tag_of T.node_tag_of self.old) self.old }
-        requires holds_last { HaveLast (terms_of B.history B.moved T.data_tag_of T.node_tag_of self.old) self.old }
-        requires risen { HaveRisen (terms_of B.history B.moved T.data_tag_of T.node_tag_of self.old) self.old }
+        requires consistent { AreConsistent (terms_of B.history B.moved T.data_tag_of T.node_tag_of
+            self.old) self.old }
+        requires holds_last { HaveLast (terms_of B.history B.moved T.data_tag_of T.node_tag_of
+            self.old) self.old }
+        requires risen { HaveRisen (terms_of B.history B.moved T.data_tag_of T.node_tag_of self.old)
+            self.old }
         requires counters { self.old.engine.evidence ≡ None → (at : ℕ) → page_of at ≡ page_of line →
             HasCounter self.old.pads.used at (counter_of (place_of at) block.now) }
         requires later { self.old.engine.evidence ≡ None → block.now.page < counter.page }
         requires room { 64 ≤ self.old.engine.room }
         requires pads_room { 64 ≤ self.old.pads.room }
 
-        ensures sealed { AreSealedInOrder (terms_of B.history B.moved T.data_tag_of T.node_tag_of self.old)
-            (record { line = line; bytes = bytes.now; counter = counter }) self.old (page_lines (page_of line)) self.new (result_err result) }
-        ensures accepted { Accepts self.old self.new (IsAcceptedBeside line (length self.old.engine.made)) }
+        ensures sealed { AreSealedInOrder (terms_of B.history B.moved T.data_tag_of T.node_tag_of
+            self.old)
+            (record { line = line; bytes = bytes.now; counter = counter }) self.old
+            (page_lines (page_of line)) self.new (result_err result) }
+        ensures accepted { Accepts self.old self.new
+            (IsAcceptedBeside line (length self.old.engine.made)) }
         ensures once { (B.history self.new.bus).accesses ≤ (B.history self.old.bus).accesses + 127 }
     {
         let first = LINES_PER_PAGE * page_of(line);

@@ -172,7 +172,8 @@ impl<B: Bus, T: Tagger> LineStore for SealedLines<B, T> {
         ensures lost { IsQuiet self.new → IsQuiet self.old }
 
         // What it made of bus, tag engine, counters and caches, and what was answered with evidence too.
-        ensures moved { ReadMoved B.history B.moved (tags_of T.data_tag_of T.node_tag_of) self.old line result self.new }
+        ensures moved { ReadMoved B.history B.moved (tags_of T.data_tag_of T.node_tag_of) self.old
+            line result self.new }
 
         // A lasting stop is answered again, and nothing is done.
         ensures kept { (stop : MemStop) → lasting_stop self.old.stopped ≡ Some stop →
@@ -204,7 +205,8 @@ impl<B: Bus, T: Tagger> LineStore for SealedLines<B, T> {
         // What it made of bus, tag engine, pads, counters and caches. The line is encrypted and tagged once, under its next
         // counter; with an overflow all lines of its page are, in the order of their places, each with the bytes that the
         // memory then holds. Where the write stops, a front part of them was.
-        ensures moved { WriteMoved B.history B.moved (tags_of T.data_tag_of T.node_tag_of) self.old line bytes.now result self.new }
+        ensures moved { WriteMoved B.history B.moved (tags_of T.data_tag_of T.node_tag_of) self.old
+            line bytes.now result self.new }
 
         // A lasting stop is answered again, and nothing is done.
         ensures kept { (stop : MemStop) → lasting_stop self.old.stopped ≡ Some stop →
@@ -247,15 +249,23 @@ fn read_at<B: Bus, T: Tagger>(
     requires inside { line < line_count outside.old.engine.geometry }
     requires geometry { counters.old.tree.geometry ≡ outside.old.engine.geometry }
     requires pages { AreOfPages outside.old.engine.geometry counters.old }
-    requires consistent { AreConsistent (terms_of B.history B.moved T.data_tag_of T.node_tag_of outside.old) outside.old }
-    requires holds_last { HaveLast (terms_of B.history B.moved T.data_tag_of T.node_tag_of outside.old) outside.old }
-    requires nodes_hold_last { HaveLastNodes (terms_of B.history B.moved T.data_tag_of T.node_tag_of outside.old) outside.old }
-    requires risen { HaveRisen (terms_of B.history B.moved T.data_tag_of T.node_tag_of outside.old) outside.old }
-    requires fits { CountersFit (terms_of B.history B.moved T.data_tag_of T.node_tag_of outside.old) outside.old counters.old }
-    requires current { CountersSay (terms_of B.history B.moved T.data_tag_of T.node_tag_of outside.old) outside.old counters.old }
-    requires started { outside.old.engine.evidence ≡ None → (at : ℕ) → HasCounter outside.old.pads.used at (counter_in outside.old.pads.used at) }
+    requires consistent { AreConsistent (terms_of B.history B.moved T.data_tag_of T.node_tag_of
+        outside.old) outside.old }
+    requires holds_last { HaveLast (terms_of B.history B.moved T.data_tag_of T.node_tag_of
+        outside.old) outside.old }
+    requires nodes_hold_last { HaveLastNodes (terms_of B.history B.moved T.data_tag_of T.node_tag_of
+        outside.old) outside.old }
+    requires risen { HaveRisen (terms_of B.history B.moved T.data_tag_of T.node_tag_of outside.old)
+        outside.old }
+    requires fits { CountersFit (terms_of B.history B.moved T.data_tag_of T.node_tag_of outside.old)
+        outside.old counters.old }
+    requires current { CountersSay (terms_of B.history B.moved T.data_tag_of T.node_tag_of
+        outside.old) outside.old counters.old }
+    requires started { outside.old.engine.evidence ≡ None → (at : ℕ) →
+        HasCounter outside.old.pads.used at (counter_in outside.old.pads.used at) }
 
-    ensures read { IsLineRead (terms_of B.history B.moved T.data_tag_of T.node_tag_of outside.old) line
+    ensures read { IsLineRead (terms_of B.history B.moved T.data_tag_of T.node_tag_of outside.old)
+        line
         outside.old counters.old outside.new counters.new result }
     ensures under { ReadUnderCounters B.history B.moved (tags_of T.data_tag_of T.node_tag_of) line
         outside.old counters.old outside.new counters.new result }
@@ -278,29 +288,47 @@ fn write_next<B: Bus, T: Tagger>(
     requires inside { line < line_count outside.old.engine.geometry }
     requires geometry { counters.old.tree.geometry ≡ outside.old.engine.geometry }
     requires pages { AreOfPages outside.old.engine.geometry counters.old }
-    requires consistent { AreConsistent (terms_of B.history B.moved T.data_tag_of T.node_tag_of outside.old) outside.old }
-    requires holds_last { HaveLast (terms_of B.history B.moved T.data_tag_of T.node_tag_of outside.old) outside.old }
-    requires nodes_hold_last { HaveLastNodes (terms_of B.history B.moved T.data_tag_of T.node_tag_of outside.old) outside.old }
-    requires risen { HaveRisen (terms_of B.history B.moved T.data_tag_of T.node_tag_of outside.old) outside.old }
-    requires fits { CountersFit (terms_of B.history B.moved T.data_tag_of T.node_tag_of outside.old) outside.old counters.old }
-    requires current { CountersSay (terms_of B.history B.moved T.data_tag_of T.node_tag_of outside.old) outside.old counters.old }
-    requires started { outside.old.engine.evidence ≡ None → (at : ℕ) → HasCounter outside.old.pads.used at (counter_in outside.old.pads.used at) }
-    requires limited { outside.old.engine.evidence ≡ None → (counter_in outside.old.pads.used line).page ≤ limit }
+    requires consistent { AreConsistent (terms_of B.history B.moved T.data_tag_of T.node_tag_of
+        outside.old) outside.old }
+    requires holds_last { HaveLast (terms_of B.history B.moved T.data_tag_of T.node_tag_of
+        outside.old) outside.old }
+    requires nodes_hold_last { HaveLastNodes (terms_of B.history B.moved T.data_tag_of T.node_tag_of
+        outside.old) outside.old }
+    requires risen { HaveRisen (terms_of B.history B.moved T.data_tag_of T.node_tag_of outside.old)
+        outside.old }
+    requires fits { CountersFit (terms_of B.history B.moved T.data_tag_of T.node_tag_of outside.old)
+        outside.old counters.old }
+    requires current { CountersSay (terms_of B.history B.moved T.data_tag_of T.node_tag_of
+        outside.old) outside.old counters.old }
+    requires started { outside.old.engine.evidence ≡ None → (at : ℕ) →
+        HasCounter outside.old.pads.used at (counter_in outside.old.pads.used at) }
+    requires limited { outside.old.engine.evidence ≡ None →
+        (counter_in outside.old.pads.used line).page ≤ limit }
 
-    ensures written { IsWrite (terms_of B.history B.moved T.data_tag_of T.node_tag_of outside.old) limit line bytes.now
+    ensures written { IsWrite (terms_of B.history B.moved T.data_tag_of T.node_tag_of outside.old)
+        limit line bytes.now
         outside.old counters.old outside.new counters.new (result_err result) }
-    ensures under { WrittenUnderCounters B.history B.moved (tags_of T.data_tag_of T.node_tag_of) limit line
+    ensures under { WrittenUnderCounters B.history B.moved (tags_of T.data_tag_of T.node_tag_of)
+        limit line
         outside.old counters.old outside.new counters.new (result_err result) }
-    ensures cached { lasting_stop (result_err result) ≡ None → Contains (cached_pages counters.new) (page_of line) }
+    ensures cached { lasting_stop (result_err result) ≡ None →
+        Contains (cached_pages counters.new) (page_of line) }
     ensures pages { AreOfPages outside.old.engine.geometry counters.new }
     ensures accepted { Accepts outside.old outside.new
-        (IsAcceptedInWrite line outside.old.pads.used outside.new.pads.used outside.new.engine.made) }
-    ensures once { outside.new.engine.evidence ≡ None → (next_counter (counter_in outside.old.pads.used line)).line ≢ 0 →
-        ((B.history outside.new.bus).accesses ≤ (B.history outside.old.bus).accesses + write_accesses outside.old.engine.geometry.levels)
-        × ((other : ℕ) → (B.history outside.new.bus).reads (line_place other) ≡ (B.history outside.old.bus).reads (line_place other)) }
-    ensures few { (B.history outside.new.bus).accesses ≤ (B.history outside.old.bus).accesses + overflow_accesses outside.old.engine.geometry.levels }
+        (IsAcceptedInWrite line outside.old.pads.used outside.new.pads.used
+        outside.new.engine.made) }
+    ensures once { outside.new.engine.evidence ≡ None →
+        (next_counter (counter_in outside.old.pads.used line)).line ≢ 0 →
+        ((B.history outside.new.bus).accesses
+        ≤ (B.history outside.old.bus).accesses + write_accesses outside.old.engine.geometry.levels)
+        × ((other : ℕ) → (B.history outside.new.bus).reads (line_place other)
+        ≡ (B.history outside.old.bus).reads (line_place other)) }
+    ensures few { (B.history outside.new.bus).accesses
+        ≤ (B.history outside.old.bus).accesses + overflow_accesses
+        outside.old.engine.geometry.levels }
     ensures hit { Contains (cached_pages counters.old) (page_of line) →
-        outside.new.engine.evidence ≡ None → (next_counter (counter_in outside.old.pads.used line)).line ≢ 0 →
+        outside.new.engine.evidence ≡ None →
+        (next_counter (counter_in outside.old.pads.used line)).line ≢ 0 →
         (B.history outside.new.bus).accesses ≤ (B.history outside.old.bus).accesses + 1 }
     ensures hit_overflow { Contains (cached_pages counters.old) (page_of line) →
         (B.history outside.new.bus).accesses ≤ (B.history outside.old.bus).accesses + 127 }

@@ -33,7 +33,8 @@ pub fn run<S: Sink>(
     out: &mut S,
 ) -> PlainRecord
     // The run of the program on its input.
-    ensures run { RunsPlain (opening image.now input.now) budget (S.state out.old) (S.state out.new) result }
+    ensures run { RunsPlain (opening image.now input.now) budget (S.state out.old) (S.state out.new)
+        result }
 {
     let Ok(memory) = opened(alloc, image) else {
         return PlainRecord {

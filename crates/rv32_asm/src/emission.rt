@@ -21,13 +21,16 @@ use sec_base::{NoMemory, Width};
 
 /// Adds the bytes of a statement that may stand where the bytes end.
 pub fn emit(bytes: &mut Vec<u8>, labels: &Labels, statement: &Statement) -> Result<(), LineError>
-    requires placed { layout_spec.is_misplaced (length bytes.old.items) (seen_statement statement.now) ≡ false }
-    requires room { length bytes.old.items + layout_spec.size_at (length bytes.old.items) (seen_statement statement.now) < 2 ^ 32 }
+    requires placed { layout_spec.is_misplaced (length bytes.old.items)
+        (seen_statement statement.now) ≡ false }
+    requires room { length bytes.old.items + layout_spec.size_at (length bytes.old.items)
+        (seen_statement statement.now) < 2 ^ 32 }
     ensures ok { OnOk result (with_more bytes.old.items
         (passes.statement_bytes labels.now (length bytes.old.items) (seen_statement statement.now))
         ≡ Ok bytes.new.items) }
     ensures refused { (fault : AsmFault) → result ≡ Err (Fault fault) →
-        passes.statement_bytes labels.now (length bytes.old.items) (seen_statement statement.now) ≡ Err fault }
+        passes.statement_bytes labels.now (length bytes.old.items) (seen_statement statement.now)
+        ≡ Err fault }
 {
     if misses_label(labels, statement) {
         return Err(LineError::Fault(AsmFault::Missing));
@@ -62,7 +65,8 @@ fn code_misses_label(labels: &Labels, instructions: &[Instruction]) -> bool
 
 // Whether one of the expressions names a label that isn't there.
 fn data_misses_label(labels: &Labels, expressions: &[Expression]) -> bool
-    ensures { result ≡ list_any (values_spec.is_missing labels.now) (seen_expressions expressions.now) }
+    ensures { result ≡ list_any (values_spec.is_missing labels.now)
+        (seen_expressions expressions.now) }
 {
     for expression in expressions {
         if values::is_missing(labels, expression) {
@@ -79,13 +83,16 @@ fn put_statement(
     labels: &Labels,
     statement: &Statement,
 ) -> Result<(), LineError>
-    requires placed { layout_spec.is_misplaced (length bytes.old.items) (seen_statement statement.now) ≡ false }
-    requires room { length bytes.old.items + layout_spec.size_at (length bytes.old.items) (seen_statement statement.now) < 2 ^ 32 }
+    requires placed { layout_spec.is_misplaced (length bytes.old.items)
+        (seen_statement statement.now) ≡ false }
+    requires room { length bytes.old.items + layout_spec.size_at (length bytes.old.items)
+        (seen_statement statement.now) < 2 ^ 32 }
     ensures ok { OnOk result (with_more bytes.old.items
         (parts.ranged_bytes labels.now (length bytes.old.items) (seen_statement statement.now))
         ≡ Ok bytes.new.items) }
     ensures refused { (fault : AsmFault) → result ≡ Err (Fault fault) →
-        parts.ranged_bytes labels.now (length bytes.old.items) (seen_statement statement.now) ≡ Err fault }
+        parts.ranged_bytes labels.now (length bytes.old.items) (seen_statement statement.now)
+        ≡ Err fault }
 {
     match statement {
         Statement::Instructions(instructions) => put_code(bytes, labels, instructions)?,
@@ -113,7 +120,8 @@ fn put_code(
         (parts.ranged_code labels.now (length bytes.old.items) (seen_instructions instructions.now))
         ≡ Ok bytes.new.items) }
     ensures refused { (fault : AsmFault) → result ≡ Err (Fault fault) →
-        parts.ranged_code labels.now (length bytes.old.items) (seen_instructions instructions.now) ≡ Err fault }
+        parts.ranged_code labels.now (length bytes.old.items) (seen_instructions instructions.now)
+        ≡ Err fault }
 {
     for instruction in instructions {
         match encoding::word_at(labels, bytes.len() as u32, instruction) {

@@ -16,7 +16,8 @@ use rv32_decode::{Format, Inst, Op, encode, format_of};
 /// The word of an instruction at an address, where its value is in its range.
 pub fn word_at(labels: &Labels, address: u32, instruction: &Instruction) -> Option<u32>
     ensures { let i = seen_instruction instruction.now in
-        result ≡ if spec.fits_at labels.now address i then Some (word_of (spec.encoded_at labels.now address i)) else None }
+        result ≡ if spec.fits_at labels.now address i then Some
+        (word_of (spec.encoded_at labels.now address i)) else None }
 {
     let value = values::immediate_value(labels, &instruction.immediate);
     let imm = immediate_of(instruction.op, address, value)?;

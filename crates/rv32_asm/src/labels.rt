@@ -81,7 +81,8 @@ impl<'a> Labels<'a> {
             (record { name = name.now; site = site } ∷ self.old)
             self.new) }
         ensures fault { (fault : AsmFault) → result ≡ Err (Fault fault) → fault ≡ Twice }
-        ensures twice { (fault : AsmFault) → result ≡ Err (Fault fault) → is_there self.old name.now ≡ true }
+        ensures twice { (fault : AsmFault) → result ≡ Err (Fault fault) →
+            is_there self.old name.now ≡ true }
     {
         if self.get(name).is_some() {
             return Err(LineError::Fault(AsmFault::Twice));

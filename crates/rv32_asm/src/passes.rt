@@ -32,7 +32,8 @@ pub fn lay_out<'a>(alloc: Global, text: &'a [u8], size: u32) -> Result<Progress<
         progress.labels) }
     ensures inside { IfOk result (λ progress. progress.address ≤ size) }
     ensures refused { (line : ℕ) (code : AsmFault) → result ≡ Err (error.Fault line code) →
-        spec.first_pass size 1 spec.start (lines_of text.now) ≡ Err (record { line = line; code = code }) }
+        spec.first_pass size 1 spec.start (lines_of text.now)
+        ≡ Err (record { line = line; code = code }) }
 {
     let mut progress = Progress {
         address: 0,
@@ -57,12 +58,15 @@ fn after_line<'a>(
     line: &'a [u8],
 ) -> Result<Progress<'a>, LineError>
     ensures after { IfOk result (λ after. LeadsTo
-        (spec.after_line size number (record { address = progress.entry.address; labels = progress.entry.labels }) line.now)
+        (spec.after_line size number
+        (record { address = progress.entry.address; labels = progress.entry.labels }) line.now)
         after.address
         after.labels) }
     ensures inside { IfOk result (λ after. after.address ≤ size) }
     ensures refused { (fault : AsmFault) → result ≡ Err (Fault fault) →
-        spec.after_line size number (record { address = progress.entry.address; labels = progress.entry.labels }) line.now ≡ Err fault }
+        spec.after_line size number
+        (record { address = progress.entry.address; labels = progress.entry.labels }) line.now
+        ≡ Err fault }
 {
     let Progress {
         address,
@@ -100,10 +104,12 @@ fn add_labels<'a>(labels: &mut Labels<'a>, text: &'a [u8], site: Site) -> Result
 pub fn bytes_of(alloc: Global, text: &[u8], labels: &Labels, end: u32) -> Result<Vec<u8>, AsmError>
     requires short { length text.now < 2 ^ 32 }
     requires end { end_of 0 (lines_of text.now) ≡ Ok end }
-    ensures bytes { IfOk result (λ bytes. spec.second_pass labels.now 1 [] (lines_of text.now) ≡ Ok bytes.items) }
+    ensures bytes { IfOk result (λ bytes. spec.second_pass labels.now 1 [] (lines_of text.now)
+        ≡ Ok bytes.items) }
     ensures length { IfOk result (λ bytes. length bytes.items ≡ end) }
     ensures refused { (line : ℕ) (code : AsmFault) → result ≡ Err (error.Fault line code) →
-        spec.second_pass labels.now 1 [] (lines_of text.now) ≡ Err (record { line = line; code = code }) }
+        spec.second_pass labels.now 1 [] (lines_of text.now)
+        ≡ Err (record { line = line; code = code }) }
 {
     let mut bytes = Vec::with_capacity(alloc, end as usize)?;
     let mut lines = NumberedLines::new(text);
@@ -123,9 +129,11 @@ fn put_line(
     line: &[u8],
 ) -> Result<(), LineError>
     requires { IsOkAnd (behind_line (length bytes.old.items) line.now) (λ next. next < 2 ^ 32) }
-    ensures ok { OnOk result (with_more bytes.old.items (spec.line_bytes labels.now (length bytes.old.items) line.now)
+    ensures ok { OnOk result
+        (with_more bytes.old.items (spec.line_bytes labels.now (length bytes.old.items) line.now)
         ≡ Ok bytes.new.items) }
-    ensures length { OnOk result (behind_line (length bytes.old.items) line.now ≡ Ok (length bytes.new.items)) }
+    ensures length { OnOk result (behind_line (length bytes.old.items) line.now
+        ≡ Ok (length bytes.new.items)) }
     ensures refused { (fault : AsmFault) → result ≡ Err (Fault fault) →
         spec.line_bytes labels.now (length bytes.old.items) line.now ≡ Err fault }
 {
@@ -165,10 +173,12 @@ impl<'a> NumberedLines<'a> {
     // The next line and its number, counted from 1, where there is one.
     fn next(&mut self) -> Option<(u32, &'a [u8])>
         requires { self.old.number + length self.old.rest.now < 2 ^ 32 }
-        ensures line { IfSome result (λ next. IsNextLine self.old.rest.now next.1.now self.new.rest.now) }
+        ensures line { IfSome result (λ next. IsNextLine self.old.rest.now next.1.now
+            self.new.rest.now) }
         ensures number { IfSome result (λ next. next.0 ≡ self.old.number + 1) }
         ensures counted { IfSome result (λ next. self.new.number ≡ next.0) }
-        ensures shorter { IfSome result (λ next. length self.new.rest.now < length self.old.rest.now) }
+        ensures shorter { IfSome result (λ next. length self.new.rest.now
+            < length self.old.rest.now) }
         ensures none { result ≡ None → length self.old.rest.now ≡ 0 }
     {
         if self.rest.is_empty() {

@@ -23,7 +23,8 @@ use std::alloc::Global;
 pub fn assemble(alloc: Global, text: &[u8], size: u32) -> Result<Image, AsmError>
     requires memory { IsMemorySize size }
     requires short { length text.now < 2 ^ 32 }
-    ensures program { IfOk result (λ image. IsOkAnd (assembled_program text.now size) (λ program. IsImageOf size program image)) }
+    ensures program { IfOk result (λ image. IsOkAnd (assembled_program text.now size)
+        (λ program. IsImageOf size program image)) }
     ensures small { IfOk result (λ image. segment_bytes image.segments < 2 ^ 31) }
     ensures refused { (line : ℕ) (code : AsmFault) → result ≡ Err (Fault line code) →
         assembled_program text.now size ≡ Err (record { line = line; code = code }) }

@@ -117,7 +117,8 @@ pub fn without_comment(line: &[u8]) -> &[u8]
 /// The first label of a line without its comment, which blanks may stand before, and all that stands behind the label's
 /// colon.
 pub fn first_label(text: &[u8]) -> Option<(&[u8], &[u8])>
-    ensures cut { IfSome result (λ label. characters.skip_blanks text.now ≡ label.0.now ++ colon ∷ label.1.now) }
+    ensures cut { IfSome result (λ label. characters.skip_blanks text.now
+        ≡ label.0.now ++ colon ∷ label.1.now) }
     ensures named { IfSome result (λ label. characters.is_name label.0.now ≡ true) }
     ensures labels { IsFirstLabel text.now result }
 {

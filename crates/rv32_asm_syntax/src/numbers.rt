@@ -37,7 +37,8 @@ fn unsigned_number(base: u32, digits: &[u8]) -> Option<i64>
 // The number below 0 that one digit or more write, where it is in the range of numbers.
 #[tactic(auto, using(crate::proofs::Digits::negated_some, crate::proofs::Digits::negated_none, crate::proofs::Digits::negated_large))]
 fn negated(digits: &[u8]) -> Option<i64>
-    ensures { result ≡ option_and_then in_range (option_map (λ n. neg_ℤ (pos n)) (spec.natural_of 10 digits.now)) }
+    ensures { result ≡ option_and_then in_range
+        (option_map (λ n. neg_ℤ (pos n)) (spec.natural_of 10 digits.now)) }
 {
     match word_from(10, digits) {
         Some(number) => {

@@ -16,7 +16,8 @@ use std::alloc::Global;
 /// The two operands that a text has.
 #[tactic(auto, using(crate::proofs::Commas::too_many))]
 pub fn two_operands(text: &[u8]) -> Option<(&[u8], &[u8])>
-    ensures { option_map (λ both. (both.0.now, both.1.now)) result ≡ two (spec.operands_of text.now) }
+    ensures { option_map (λ both. (both.0.now, both.1.now)) result
+        ≡ two (spec.operands_of text.now) }
 {
     let (first, rest) = first_operand(operands_of(text)?);
     let (second, rest) = first_operand(rest?);
@@ -42,7 +43,8 @@ pub fn with_operands<'a>(
     instruction: Instruction<'a>,
 ) -> Option<Instruction<'a>>
     ensures { option_map seen_instruction result
-        ≡ spec.with_operands (map seen_operand operands.now) (operands_left texts.entry) (seen_instruction instruction.entry) }
+        ≡ spec.with_operands (map seen_operand operands.now) (operands_left texts.entry)
+        (seen_instruction instruction.entry) }
 {
     let mut left = texts;
     let mut given = instruction;
@@ -63,7 +65,8 @@ fn with_operand<'a>(
     text: &'a [u8],
     instruction: Instruction<'a>,
 ) -> Option<Instruction<'a>>
-    ensures { option_map seen_instruction result ≡ spec.with_operand (seen_operand operand) text.now (seen_instruction instruction.entry) }
+    ensures { option_map seen_instruction result
+        ≡ spec.with_operand (seen_operand operand) text.now (seen_instruction instruction.entry) }
 {
     let mut given = instruction;
     match operand {

@@ -31,8 +31,10 @@ use std::alloc::Global;
 #[tactic(auto, unfolding(crate::specs::Reading::statement_of))]
 pub fn statement_of<'a>(alloc: Global, line: &'a [u8]) -> Result<Statement<'a>, LineError>
     ensures read { IfOk result (λ s. spec.statement_of line.now ≡ Ok (seen_statement s)) }
-    ensures refused { (fault : AsmFault) → result ≡ Err (Fault fault) → spec.statement_of line.now ≡ Err fault }
-    ensures memory { result ≡ Err cause.NoMemory → takes_memory (front_keyword (lines.statement_text line.now)) ≡ true }
+    ensures refused { (fault : AsmFault) → result ≡ Err (Fault fault) →
+        spec.statement_of line.now ≡ Err fault }
+    ensures memory { result ≡ Err cause.NoMemory →
+        takes_memory (front_keyword (lines.statement_text line.now)) ≡ true }
 {
     if has_non_ascii(without_comment(line)) {
         return Err(LineError::Fault(AsmFault::Unknown));
@@ -43,7 +45,8 @@ pub fn statement_of<'a>(alloc: Global, line: &'a [u8]) -> Result<Statement<'a>, 
 // The statement that a text is, which begins with its word.
 fn statement_in<'a>(alloc: Global, text: &'a [u8]) -> Result<Statement<'a>, LineError>
     ensures read { IfOk result (λ s. spec.statement_in text.now ≡ Ok (seen_statement s)) }
-    ensures refused { (fault : AsmFault) → result ≡ Err (Fault fault) → spec.statement_in text.now ≡ Err fault }
+    ensures refused { (fault : AsmFault) → result ≡ Err (Fault fault) →
+        spec.statement_in text.now ≡ Err fault }
     ensures memory { result ≡ Err cause.NoMemory → takes_memory (front_keyword text.now) ≡ true }
 {
     if text.is_empty() {
@@ -66,7 +69,8 @@ fn statement_with<'a>(
     keyword: Keyword,
     text: &'a [u8],
 ) -> Result<Option<Statement<'a>>, NoMemory>
-    ensures read { IfOk result (λ s. option_map seen_statement s ≡ spec.statement_with (seen_keyword keyword) text.now) }
+    ensures read { IfOk result (λ s. option_map seen_statement s
+        ≡ spec.statement_with (seen_keyword keyword) text.now) }
     ensures memory { OnErr result (takes_memory (Some (seen_keyword keyword)) ≡ true) }
 {
     match keyword {
@@ -93,7 +97,8 @@ fn one_instruction<'a>(
     text: &'a [u8],
 ) -> Option<Statement<'a>>
     ensures { option_map seen_statement result
-        ≡ spec.statement_with (InstructionKeyword (map seen_operand operands.now) (seen_instruction instruction.entry)) text.now }
+        ≡ spec.statement_with (InstructionKeyword (map seen_operand operands.now)
+        (seen_instruction instruction.entry)) text.now }
 {
     let given = with_operands(operands, operands_of(text), instruction)?;
     Some(Statement::Instructions(alone(given)))
@@ -171,7 +176,8 @@ fn data_of<'a>(
     width: Width,
     text: &'a [u8],
 ) -> Result<Option<Statement<'a>>, NoMemory>
-    ensures { IfOk result (λ s. option_map seen_statement s ≡ spec.data_of width (spec.operands_of text.now)) }
+    ensures { IfOk result (λ s. option_map seen_statement s
+        ≡ spec.data_of width (spec.operands_of text.now)) }
 {
     if text.is_empty() {
         return Ok(None);
@@ -185,7 +191,8 @@ fn data_of<'a>(
 // A string.
 #[tactic(auto, unfolding(crate::specs::Reading::statement_with))]
 fn ascii_of<'a>(alloc: Global, text: &'a [u8]) -> Result<Option<Statement<'a>>, NoMemory>
-    ensures { IfOk result (λ s. option_map seen_statement s ≡ spec.statement_with AsciiKeyword text.now) }
+    ensures { IfOk result (λ s. option_map seen_statement s
+        ≡ spec.statement_with AsciiKeyword text.now) }
 {
     match string_of(alloc, text)? {
         Some(bytes) => Ok(Some(Statement::Bytes(bytes))),
@@ -196,7 +203,8 @@ fn ascii_of<'a>(alloc: Global, text: &'a [u8]) -> Result<Option<Statement<'a>>, 
 // A string and a zero byte.
 #[tactic(auto, unfolding(crate::specs::Reading::statement_with))]
 fn asciz_of<'a>(alloc: Global, text: &'a [u8]) -> Result<Option<Statement<'a>>, NoMemory>
-    ensures { IfOk result (λ s. option_map seen_statement s ≡ spec.statement_with AscizKeyword text.now) }
+    ensures { IfOk result (λ s. option_map seen_statement s
+        ≡ spec.statement_with AscizKeyword text.now) }
 {
     let Some(mut bytes) = string_of(alloc, text)? else {
         return Ok(None);

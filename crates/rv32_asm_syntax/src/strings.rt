@@ -11,7 +11,8 @@ use std::alloc::Global;
 /// The bytes of a string in quotation marks, or `None` where a text is none.
 #[tactic(auto, using(crate::proofs::Quotes::no_string), unfolding(crate::specs::Reading::string_of))]
 pub fn string_of(alloc: Global, text: &[u8]) -> Result<Option<Vec<u8>>, NoMemory>
-    ensures { IfOk result (λ string. option_map (λ bytes. bytes.items) string ≡ spec.string_of text.now) }
+    ensures { IfOk result (λ string. option_map (λ bytes. bytes.items) string
+        ≡ spec.string_of text.now) }
 {
     let [b'"', rest @ ..] = text else {
         return Ok(None);
@@ -38,7 +39,8 @@ struct Character<'a> {
 // The byte that the first character of a string means, and what stands behind the character.
 #[tactic(auto, using(crate::proofs::Quotes::plain, crate::proofs::Quotes::quoted))]
 fn first_character(text: &[u8]) -> Option<Character<'_>>
-    ensures character { text.now ≢ quotation_mark ∷ [] → spec.string_after text.now ≡ string_from result }
+    ensures character { text.now ≢ quotation_mark ∷ [] →
+        spec.string_after text.now ≡ string_from result }
     ensures shorter { IfSome result (λ c. length c.rest.now < length text.now) }
 {
     match text {

@@ -31,13 +31,16 @@ pub enum Extension {
 pub fn fetch<M: Ram>(ram: &mut M, pc: u32) -> Result<u32, StepStop>
     requires { pc % 4 ≡ 0 }
 
-    ensures fetched { IsReliable M.stopped M.sound ram.old ram.new → IsFetched (M.contents ram.old) pc result }
-    ensures contents { IsReliable M.stopped M.sound ram.old ram.new → M.contents ram.new ≡ M.contents ram.old }
+    ensures fetched { IsReliable M.stopped M.sound ram.old ram.new →
+        IsFetched (M.contents ram.old) pc result }
+    ensures contents { IsReliable M.stopped M.sound ram.old ram.new →
+        M.contents ram.new ≡ M.contents ram.old }
 
     ensures mem { M.stopped ram.old ≡ None → StopsFetch (M.stopped ram.new) result }
     ensures write_fault { result ≢ Err WriteFault }
 
-    ensures moved { GoesOn M.extent M.sound M.moved (λ lines. AreTouched result (line_of pc ∷ []) lines) ram.old ram.new }
+    ensures moved { GoesOn M.extent M.sound M.moved
+        (λ lines. AreTouched result (line_of pc ∷ []) lines) ram.old ram.new }
 {
     if u64::from(pc) + 4 > u64::from(ram.size()) {
         return Err(StepStop::Trap(Cause::OutsideMemory));
@@ -59,15 +62,19 @@ impl Core {
 
         ensures outcome { IsReliable M.stopped M.sound ram.old ram.new → (calls : ServicesView) →
             let before = state_of self.old calls (M.contents ram.old) in
-            IsOutcome (load_effect (extension_of extension) width inst.now before) result before (state_of self.new calls (M.contents ram.new)) [] }
+            IsOutcome (load_effect (extension_of extension) width inst.now before) result before
+            (state_of self.new calls (M.contents ram.new)) [] }
         ensures stays { OnErr result (self.new ≡ self.old) }
 
         ensures mem { M.stopped ram.old ≡ None → CarriesStop (M.stopped ram.new) result }
-        ensures only_traps { M.stopped ram.old ≡ None → M.stopped ram.new ≡ None → OnlyTraps result }
+        ensures only_traps { M.stopped ram.old ≡ None → M.stopped ram.new ≡ None →
+            OnlyTraps result }
         ensures write_fault { result ≢ Err WriteFault }
 
         ensures moved { GoesOn M.extent M.sound M.moved
-            (λ lines. AreTouched result (access_line width inst.now self.old (length (M.contents ram.old))) lines) ram.old ram.new }
+            (λ lines. AreTouched result
+            (access_line width inst.now self.old (length (M.contents ram.old))) lines) ram.old
+            ram.new }
     {
         let address = self.data_address(inst);
         if let Some(cause) = fault_at(address, width, ram.size()) {
@@ -89,15 +96,19 @@ impl Core {
 
         ensures outcome { IsReliable M.stopped M.sound ram.old ram.new → (calls : ServicesView) →
             let before = state_of self.old calls (M.contents ram.old) in
-            IsOutcome (store_effect width inst.now before) result before (state_of self.new calls (M.contents ram.new)) [] }
+            IsOutcome (store_effect width inst.now before) result before
+            (state_of self.new calls (M.contents ram.new)) [] }
         ensures stays { OnErr result (self.new ≡ self.old) }
 
         ensures mem { M.stopped ram.old ≡ None → CarriesStop (M.stopped ram.new) result }
-        ensures only_traps { M.stopped ram.old ≡ None → M.stopped ram.new ≡ None → OnlyTraps result }
+        ensures only_traps { M.stopped ram.old ≡ None → M.stopped ram.new ≡ None →
+            OnlyTraps result }
         ensures write_fault { result ≢ Err WriteFault }
 
         ensures moved { GoesOn M.extent M.sound M.moved
-            (λ lines. AreTouched result (access_line width inst.now self.old (length (M.contents ram.old))) lines) ram.old ram.new }
+            (λ lines. AreTouched result
+            (access_line width inst.now self.old (length (M.contents ram.old))) lines) ram.old
+            ram.new }
     {
         let address = self.data_address(inst);
         if let Some(cause) = fault_at(address, width, ram.size()) {

@@ -83,7 +83,8 @@ impl<'a> Calls<'a> {
     /// The next bytes of the input, at most so many.
     pub(crate) fn next_bytes(&self, count: u32) -> &[u8]
         ensures bytes { result.now ≡ next_input self.now.services count }
-        ensures left { self.now.services.position + length result.now ≤ length self.now.services.input }
+        ensures left { self.now.services.position + length result.now
+            ≤ length self.now.services.input }
     {
         let rest = &self.input[self.position..];
         &rest[..rest.len().min(count as usize)]
@@ -92,7 +93,8 @@ impl<'a> Calls<'a> {
     /// So many bytes of the input were read.
     pub(crate) fn advance(&mut self, count: usize)
         requires { self.old.services.position + count ≤ length self.old.services.input }
-        ensures services { self.new.services ≡ with_position self.old.services (self.old.services.position + count) }
+        ensures services { self.new.services
+            ≡ with_position self.old.services (self.old.services.position + count) }
         ensures digest { self.new.digest ≡ self.old.digest }
     {
         self.position += count;
@@ -100,7 +102,8 @@ impl<'a> Calls<'a> {
 
     /// Moves the break to an address where it may stand, and returns the break.
     pub(crate) fn move_break(&mut self, address: u32, size: u32) -> u32
-        ensures answer { result ≡ (if is_break self.old.services size address then address else self.old.services.brk) }
+        ensures answer { result
+            ≡ (if is_break self.old.services size address then address else self.old.services.brk) }
         ensures moved { self.new.services ≡ with_break self.old.services result }
         ensures digest { self.new.digest ≡ self.old.digest }
     {

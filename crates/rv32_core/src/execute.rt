@@ -35,20 +35,27 @@ impl Core {
         requires { IsInst inst.now }
 
         ensures outcome { let before = state_of self.old calls.old.services (M.contents ram.old) in
-            (printed : List ℕ) × Prints (S.state out.old) calls.old.digest printed (S.state out.new) calls.new.digest
-            × (IsReliable M.stopped M.sound ram.old ram.new → IsOutcome (effect inst.now.op inst.now before) result before
+            (printed : List ℕ) × Prints (S.state out.old) calls.old.digest printed (S.state out.new)
+            calls.new.digest
+            × (IsReliable M.stopped M.sound ram.old ram.new →
+            IsOutcome (effect inst.now.op inst.now before) result before
             (state_of self.new calls.new.services (M.contents ram.new)) printed) }
-        ensures stays { OnErr result ((self.new ≡ self.old) × (calls.new.services ≡ calls.old.services)) }
+        ensures stays { OnErr result ((self.new ≡ self.old)
+            × (calls.new.services ≡ calls.old.services)) }
 
         ensures mem { M.stopped ram.old ≡ None → CarriesStop (M.stopped ram.new) result }
-        ensures sink_stop { IsReliable M.stopped M.sound ram.old ram.new → M.stopped ram.new ≡ None → IsSinkStop result
-            (effect inst.now.op inst.now (state_of self.old calls.old.services (M.contents ram.old))) }
-        ensures write_fault { result ≡ Err WriteFault → Rose (S.state out.old).faults (S.state out.new).faults }
+        ensures sink_stop { IsReliable M.stopped M.sound ram.old ram.new →
+            M.stopped ram.new ≡ None → IsSinkStop result
+            (effect inst.now.op inst.now
+            (state_of self.old calls.old.services (M.contents ram.old))) }
+        ensures write_fault { result ≡ Err WriteFault →
+            Rose (S.state out.old).faults (S.state out.new).faults }
         ensures faults { (S.state out.old).faults ≤ (S.state out.new).faults }
         ensures quiet { KeepsFaults result (S.state out.old) (S.state out.new) }
 
         ensures moved { GoesOn M.extent M.sound M.moved (λ lines. AreTouched result
-            (data_lines inst.now.op inst.now (state_of self.old calls.old.services (M.contents ram.old))) lines) ram.old ram.new }
+            (data_lines inst.now.op inst.now
+            (state_of self.old calls.old.services (M.contents ram.old))) lines) ram.old ram.new }
     {
         match inst.op {
             Op::Lui => self.retire(inst.rd, immediate(inst)),

@@ -17,7 +17,8 @@ pub fn store_bytes<M: Ram>(ram: &mut M, from: u32, bytes: &[u8]) -> Result<(), M
         M.contents ram.new ≡ with_bytes (M.contents ram.old) from (take count bytes.now))) }
 
     ensures goes_on { OnOk result (M.stopped ram.new ≡ M.stopped ram.old) }
-    ensures stops { M.stopped ram.old ≡ None → IfErr result (λ stop. M.stopped ram.new ≡ Some stop) }
+    ensures stops { M.stopped ram.old ≡ None →
+        IfErr result (λ stop. M.stopped ram.new ≡ Some stop) }
 
     ensures moved { GoesOn M.extent M.sound M.moved
         (λ lines. AreTouched result (byte_lines from (length bytes.now)) lines) ram.old ram.new }

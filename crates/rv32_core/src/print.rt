@@ -23,14 +23,18 @@ pub fn print<M: Ram, S: Sink>(
     requires inside { 0 < count → from + count ≤ M.extent ram.old }
     requires fits { 0 < count → from + count < 2 ^ 32 }
 
-    ensures printed { (printed : List ℕ) × Prints (S.state out.old) calls.old.digest printed (S.state out.new) calls.new.digest
-        × (IsReliable M.stopped M.sound ram.old ram.new → IsPrinted result (memory_bytes (M.contents ram.old) from count) printed) }
-    ensures contents { IsReliable M.stopped M.sound ram.old ram.new → M.contents ram.new ≡ M.contents ram.old }
+    ensures printed { (printed : List ℕ)
+        × Prints (S.state out.old) calls.old.digest printed (S.state out.new) calls.new.digest
+        × (IsReliable M.stopped M.sound ram.old ram.new →
+        IsPrinted result (memory_bytes (M.contents ram.old) from count) printed) }
+    ensures contents { IsReliable M.stopped M.sound ram.old ram.new →
+        M.contents ram.new ≡ M.contents ram.old }
     ensures services { calls.new.services ≡ calls.old.services }
 
     ensures mem { M.stopped ram.old ≡ None → StopsAs (M.stopped ram.new) result }
     ensures some { M.stopped ram.old ≡ None → M.stopped ram.new ≡ None → OnErr result (0 < count) }
-    ensures write_fault { result ≡ Err WriteFault → Rose (S.state out.old).faults (S.state out.new).faults }
+    ensures write_fault { result ≡ Err WriteFault →
+        Rose (S.state out.old).faults (S.state out.new).faults }
     ensures faults { (S.state out.old).faults ≤ (S.state out.new).faults }
     ensures quiet { KeepsFaults result (S.state out.old) (S.state out.new) }
 
@@ -68,13 +72,17 @@ fn print_piece<M: Ram, S: Sink>(
     requires some { 0 < count }
     requires short { count ≤ 64 }
 
-    ensures printed { (printed : List ℕ) × Prints (S.state out.old) calls.old.digest printed (S.state out.new) calls.new.digest
-        × (IsReliable M.stopped M.sound ram.old ram.new → IsPrinted result (memory_bytes (M.contents ram.old) from count) printed) }
-    ensures contents { IsReliable M.stopped M.sound ram.old ram.new → M.contents ram.new ≡ M.contents ram.old }
+    ensures printed { (printed : List ℕ)
+        × Prints (S.state out.old) calls.old.digest printed (S.state out.new) calls.new.digest
+        × (IsReliable M.stopped M.sound ram.old ram.new →
+        IsPrinted result (memory_bytes (M.contents ram.old) from count) printed) }
+    ensures contents { IsReliable M.stopped M.sound ram.old ram.new →
+        M.contents ram.new ≡ M.contents ram.old }
     ensures services { calls.new.services ≡ calls.old.services }
 
     ensures mem { M.stopped ram.old ≡ None → StopsAs (M.stopped ram.new) result }
-    ensures write_fault { result ≡ Err WriteFault → Rose (S.state out.old).faults (S.state out.new).faults }
+    ensures write_fault { result ≡ Err WriteFault →
+        Rose (S.state out.old).faults (S.state out.new).faults }
     ensures faults { (S.state out.old).faults ≤ (S.state out.new).faults }
     ensures quiet { KeepsFaults result (S.state out.old) (S.state out.new) }
 
@@ -90,12 +98,14 @@ fn print_piece<M: Ram, S: Sink>(
 
 // Writes a piece, in as many writes as the sink takes, and digests what it took: after an error a front part of it.
 fn write_piece<S: Sink>(calls: &mut Calls, out: &mut S, piece: &[u8]) -> Result<(), StepStop>
-    ensures printed { (printed : List ℕ) × Prints (S.state out.old) calls.old.digest printed (S.state out.new) calls.new.digest
+    ensures printed { (printed : List ℕ)
+        × Prints (S.state out.old) calls.old.digest printed (S.state out.new) calls.new.digest
         × IsPrinted result piece.now printed }
     ensures services { calls.new.services ≡ calls.old.services }
 
     ensures mem { StopsAs None result }
-    ensures write_fault { result ≡ Err WriteFault → Rose (S.state out.old).faults (S.state out.new).faults }
+    ensures write_fault { result ≡ Err WriteFault →
+        Rose (S.state out.old).faults (S.state out.new).faults }
     ensures faults { (S.state out.old).faults ≤ (S.state out.new).faults }
     ensures quiet { KeepsFaults result (S.state out.old) (S.state out.new) }
 {
@@ -116,10 +126,12 @@ fn load_piece<M: Ram>(ram: &mut M, from: u32, piece: &mut [u8]) -> Result<(), Me
 
     ensures loaded { IsReliable M.stopped M.sound ram.old ram.new → OnOk result (
         piece.new ≡ memory_bytes (M.contents ram.old) from (length piece.old)) }
-    ensures contents { IsReliable M.stopped M.sound ram.old ram.new → M.contents ram.new ≡ M.contents ram.old }
+    ensures contents { IsReliable M.stopped M.sound ram.old ram.new →
+        M.contents ram.new ≡ M.contents ram.old }
 
     ensures goes_on { OnOk result (M.stopped ram.new ≡ M.stopped ram.old) }
-    ensures stops { M.stopped ram.old ≡ None → IfErr result (λ stop. M.stopped ram.new ≡ Some stop) }
+    ensures stops { M.stopped ram.old ≡ None →
+        IfErr result (λ stop. M.stopped ram.new ≡ Some stop) }
 
     ensures moved { GoesOn M.extent M.sound M.moved
         (λ lines. AreTouched result (byte_lines from (length piece.old)) lines) ram.old ram.new }

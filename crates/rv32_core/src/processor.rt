@@ -39,26 +39,36 @@ pub trait Processor: Drop {
     ) -> Result<Step, StepStop>
         // Where the memory can be relied on, it is the plain machine's instruction. What the sink took, the digest took too,
         // also after a stop.
-        ensures outcome { let before = state_of (core self.old) calls.old.services (M.contents ram.old) in
-            (printed : List ℕ) × Prints (S.state out.old) calls.old.digest printed (S.state out.new) calls.new.digest
+        ensures outcome { let before = state_of (core self.old) calls.old.services
+            (M.contents ram.old) in
+            (printed : List ℕ) × Prints (S.state out.old) calls.old.digest printed (S.state out.new)
+            calls.new.digest
             × (IsReliable M.stopped M.sound ram.old ram.new → IsOutcome (next before) result before
             (state_of (core self.new) calls.new.services (M.contents ram.new)) printed) }
-        ensures stays { OnErr result ((core self.new ≡ core self.old) × (calls.new.services ≡ calls.old.services)) }
+        ensures stays { OnErr result ((core self.new ≡ core self.old)
+            × (calls.new.services ≡ calls.old.services)) }
 
         // Where the memory did not stop either, it traps exactly where that instruction does.
-        ensures traps { IsReliable M.stopped M.sound ram.old ram.new → M.stopped ram.new ≡ None → (cause : Cause) →
-            (result ≡ Err (Trap cause)) ↔ (next (state_of (core self.old) calls.old.services (M.contents ram.old)) ≡ Err cause) }
+        ensures traps { IsReliable M.stopped M.sound ram.old ram.new → M.stopped ram.new ≡ None →
+            (cause : Cause) →
+            (result ≡ Err (Trap cause))
+            ↔ (next (state_of (core self.old) calls.old.services (M.contents ram.old))
+            ≡ Err cause) }
         ensures mem { M.stopped ram.old ≡ None → CarriesStop (M.stopped ram.new) result }
-        ensures sink_stop { IsReliable M.stopped M.sound ram.old ram.new → M.stopped ram.new ≡ None →
-            IsSinkStop result (next (state_of (core self.old) calls.old.services (M.contents ram.old))) }
-        ensures write_fault { result ≡ Err WriteFault → Rose (S.state out.old).faults (S.state out.new).faults }
+        ensures sink_stop { IsReliable M.stopped M.sound ram.old ram.new →
+            M.stopped ram.new ≡ None →
+            IsSinkStop result (next
+            (state_of (core self.old) calls.old.services (M.contents ram.old))) }
+        ensures write_fault { result ≡ Err WriteFault →
+            Rose (S.state out.old).faults (S.state out.new).faults }
         ensures faults { (S.state out.old).faults ≤ (S.state out.new).faults }
         ensures quiet { KeepsFaults result (S.state out.old) (S.state out.new) }
 
         // It touches the lines of that instruction, in order, and after an error a front part of them.
         ensures moved { GoesOn M.extent M.sound M.moved
             (λ lines. IsReliable M.stopped M.sound ram.old ram.new →
-            AreTouched result (touched_lines (state_of (core self.old) calls.old.services (M.contents ram.old))) lines)
+            AreTouched result (touched_lines
+            (state_of (core self.old) calls.old.services (M.contents ram.old))) lines)
             ram.old ram.new };
 }
 
@@ -118,7 +128,11 @@ impl Core {
     #[inline]
     pub(crate) fn set_reg(&mut self, number: u8, value: u32)
         requires { number < 32 }
-        ensures { self.new ≡ record { pc = self.old.pc; registers = with_register self.old.registers number value } }
+        ensures { self.new ≡ record {
+          pc = self.old.pc;
+          registers = with_register self.old.registers
+              number value;
+        } }
     {
         if number != 0 {
             self.registers[number as usize] = value;

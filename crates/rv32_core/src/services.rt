@@ -52,20 +52,27 @@ impl Core {
         out: &mut S,
     ) -> Result<Step, StepStop>
         ensures outcome { let before = state_of self.old calls.old.services (M.contents ram.old) in
-            (printed : List ℕ) × Prints (S.state out.old) calls.old.digest printed (S.state out.new) calls.new.digest
-            × (IsReliable M.stopped M.sound ram.old ram.new → IsOutcome (Ok (service before)) result before
+            (printed : List ℕ) × Prints (S.state out.old) calls.old.digest printed (S.state out.new)
+            calls.new.digest
+            × (IsReliable M.stopped M.sound ram.old ram.new →
+            IsOutcome (Ok (service before)) result before
             (state_of self.new calls.new.services (M.contents ram.new)) printed) }
-        ensures stays { OnErr result ((self.new ≡ self.old) × (calls.new.services ≡ calls.old.services)) }
+        ensures stays { OnErr result ((self.new ≡ self.old)
+            × (calls.new.services ≡ calls.old.services)) }
 
         ensures mem { M.stopped ram.old ≡ None → CarriesStop (M.stopped ram.new) result }
-        ensures sink_stop { IsReliable M.stopped M.sound ram.old ram.new → M.stopped ram.new ≡ None →
-            IsSinkStop result (Ok (service (state_of self.old calls.old.services (M.contents ram.old)))) }
-        ensures write_fault { result ≡ Err WriteFault → Rose (S.state out.old).faults (S.state out.new).faults }
+        ensures sink_stop { IsReliable M.stopped M.sound ram.old ram.new →
+            M.stopped ram.new ≡ None →
+            IsSinkStop result (Ok
+            (service (state_of self.old calls.old.services (M.contents ram.old)))) }
+        ensures write_fault { result ≡ Err WriteFault →
+            Rose (S.state out.old).faults (S.state out.new).faults }
         ensures faults { (S.state out.old).faults ≤ (S.state out.new).faults }
         ensures quiet { KeepsFaults result (S.state out.old) (S.state out.new) }
 
         ensures moved { GoesOn M.extent M.sound M.moved
-            (λ lines. AreTouched result (service_lines (state_of self.old calls.old.services (M.contents ram.old))) lines)
+            (λ lines. AreTouched result
+            (service_lines (state_of self.old calls.old.services (M.contents ram.old))) lines)
             ram.old ram.new }
     {
         match self.reg(A7) {
@@ -80,17 +87,21 @@ impl Core {
     // The next a2 bytes of the input, or what is left of it, are stored from a1 on.
     fn read_input<M: Ram>(&mut self, ram: &mut M, calls: &mut Calls) -> Result<Step, StepStop>
         ensures outcome { let before = state_of self.old calls.old.services (M.contents ram.old) in
-            IsReliable M.stopped M.sound ram.old ram.new → IsOutcome (Ok (read_service before)) result before
+            IsReliable M.stopped M.sound ram.old ram.new →
+            IsOutcome (Ok (read_service before)) result before
             (state_of self.new calls.new.services (M.contents ram.new)) [] }
-        ensures stays { OnErr result ((self.new ≡ self.old) × (calls.new.services ≡ calls.old.services)) }
+        ensures stays { OnErr result ((self.new ≡ self.old)
+            × (calls.new.services ≡ calls.old.services)) }
         ensures digest { calls.new.digest ≡ calls.old.digest }
 
         ensures mem { M.stopped ram.old ≡ None → CarriesStop (M.stopped ram.new) result }
-        ensures only_traps { M.stopped ram.old ≡ None → M.stopped ram.new ≡ None → OnlyTraps result }
+        ensures only_traps { M.stopped ram.old ≡ None → M.stopped ram.new ≡ None →
+            OnlyTraps result }
         ensures write_fault { result ≢ Err WriteFault }
 
         ensures moved { GoesOn M.extent M.sound M.moved
-            (λ lines. AreTouched result (read_lines (state_of self.old calls.old.services (M.contents ram.old))) lines)
+            (λ lines. AreTouched result
+            (read_lines (state_of self.old calls.old.services (M.contents ram.old))) lines)
             ram.old ram.new }
     {
         let from = self.reg(A1);
@@ -116,21 +127,27 @@ impl Core {
         out: &mut S,
     ) -> Result<Step, StepStop>
         ensures outcome { let before = state_of self.old calls.old.services (M.contents ram.old) in
-            (printed : List ℕ) × Prints (S.state out.old) calls.old.digest printed (S.state out.new) calls.new.digest
-            × (IsReliable M.stopped M.sound ram.old ram.new → IsOutcome (Ok (write_service before)) result before
+            (printed : List ℕ) × Prints (S.state out.old) calls.old.digest printed (S.state out.new)
+            calls.new.digest
+            × (IsReliable M.stopped M.sound ram.old ram.new →
+            IsOutcome (Ok (write_service before)) result before
             (state_of self.new calls.new.services (M.contents ram.new)) printed) }
         ensures stays { OnErr result (self.new ≡ self.old) }
         ensures services { calls.new.services ≡ calls.old.services }
 
         ensures mem { M.stopped ram.old ≡ None → CarriesStop (M.stopped ram.new) result }
-        ensures sink_stop { IsReliable M.stopped M.sound ram.old ram.new → M.stopped ram.new ≡ None →
-            IsSinkStop result (Ok (write_service (state_of self.old calls.old.services (M.contents ram.old)))) }
-        ensures write_fault { result ≡ Err WriteFault → Rose (S.state out.old).faults (S.state out.new).faults }
+        ensures sink_stop { IsReliable M.stopped M.sound ram.old ram.new →
+            M.stopped ram.new ≡ None →
+            IsSinkStop result (Ok
+            (write_service (state_of self.old calls.old.services (M.contents ram.old)))) }
+        ensures write_fault { result ≡ Err WriteFault →
+            Rose (S.state out.old).faults (S.state out.new).faults }
         ensures faults { (S.state out.old).faults ≤ (S.state out.new).faults }
         ensures quiet { KeepsFaults result (S.state out.old) (S.state out.new) }
 
         ensures moved { GoesOn M.extent M.sound M.moved
-            (λ lines. AreTouched result (write_lines (state_of self.old calls.old.services (M.contents ram.old))) lines)
+            (λ lines. AreTouched result
+            (write_lines (state_of self.old calls.old.services (M.contents ram.old))) lines)
             ram.old ram.new }
     {
         let from = self.reg(A1);
@@ -158,7 +175,8 @@ impl Core {
     // Moves the program's break to the address in a0, where it may stand there.
     fn move_break<M: Ram>(&mut self, ram: &M, calls: &mut Calls) -> Result<Step, StepStop>
         ensures outcome { let before = state_of self.old calls.old.services (M.contents ram.now) in
-            IsOutcome (Ok (brk_service before)) result before (state_of self.new calls.new.services (M.contents ram.now)) [] }
+            IsOutcome (Ok (brk_service before)) result before
+            (state_of self.new calls.new.services (M.contents ram.now)) [] }
         ensures digest { calls.new.digest ≡ calls.old.digest }
         ensures retired { result ≡ Ok Retired }
     {

@@ -16,8 +16,10 @@ impl Core {
     pub(crate) fn jump(&mut self, target: u32, inst: &Inst) -> Result<Step, StepStop>
         requires { IsInst inst.now }
 
-        ensures outcome { (calls : ServicesView) (memory : List ℕ) → let before = state_of self.old calls memory in
-            IsOutcome (jump_effect target inst.now before) result before (state_of self.new calls memory) [] }
+        ensures outcome { (calls : ServicesView) (memory : List ℕ) →
+            let before = state_of self.old calls memory in
+            IsOutcome (jump_effect target inst.now before) result before
+            (state_of self.new calls memory) [] }
         ensures stays { OnErr result (self.new ≡ self.old) }
         ensures only_traps { OnlyTraps result }
     {
@@ -33,8 +35,10 @@ impl Core {
     // A branch, where it is taken or not.
     #[inline]
     pub(crate) fn branch(&mut self, taken: bool, inst: &Inst) -> Result<Step, StepStop>
-        ensures outcome { (calls : ServicesView) (memory : List ℕ) → let before = state_of self.old calls memory in
-            IsOutcome (branch_effect taken inst.now before) result before (state_of self.new calls memory) [] }
+        ensures outcome { (calls : ServicesView) (memory : List ℕ) →
+            let before = state_of self.old calls memory in
+            IsOutcome (branch_effect taken inst.now before) result before
+            (state_of self.new calls memory) [] }
         ensures stays { OnErr result (self.new ≡ self.old) }
         ensures only_traps { OnlyTraps result }
     {

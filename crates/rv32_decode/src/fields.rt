@@ -148,7 +148,8 @@ fn imm_bits_s(imm: u32) -> u32
 // The bits of a branch's distance, in their places in a word.
 fn imm_bits_b(imm: u32) -> u32
     ensures { result
-        ≡ field imm 11 1 * 2 ^ 7 + field imm 1 4 * 2 ^ 8 + field imm 5 6 * 2 ^ 25 + field imm 12 1 * 2 ^ 31 }
+        ≡ field imm 11 1 * 2 ^ 7 + field imm 1 4 * 2 ^ 8 + field imm 5 6 * 2 ^ 25 + field imm 12 1 *
+        2 ^ 31 }
 {
     let low = bits(imm, 11, 1) * 0x80 + bits(imm, 1, 4) * 0x100;
     low + bits(imm, 5, 6) * 0x200_0000 + bits(imm, 12, 1) * 0x8000_0000
@@ -157,7 +158,8 @@ fn imm_bits_b(imm: u32) -> u32
 // The bits of a jump's distance, in their places in a word.
 fn imm_bits_j(imm: u32) -> u32
     ensures { result
-        ≡ field imm 12 8 * 2 ^ 12 + field imm 11 1 * 2 ^ 20 + field imm 1 10 * 2 ^ 21 + field imm 20 1 * 2 ^ 31 }
+        ≡ field imm 12 8 * 2 ^ 12 + field imm 11 1 * 2 ^ 20 + field imm 1 10 * 2 ^ 21 + field imm 20
+        1 * 2 ^ 31 }
 {
     let low = bits(imm, 12, 8) * 0x1000 + bits(imm, 11, 1) * 0x10_0000;
     low + bits(imm, 1, 10) * 0x20_0000 + bits(imm, 20, 1) * 0x8000_0000

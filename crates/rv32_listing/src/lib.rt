@@ -18,7 +18,8 @@ use std::alloc::Global;
 /// there. Words are cut from a segment's first byte on, at whatever address it stands, and the bytes that are left over
 /// at its end have a line each, such as `00000008 ff .byte 0xff`. The zeros behind a segment's bytes have no lines.
 pub fn write_listing<S: Sink>(alloc: Global, image: &Image, out: &mut S) -> Result<(), SinkStop>
-    ensures listed { IsWritten (listing_of image.now.segments) (S.state out.old) (S.state out.new) result }
+    ensures listed { IsWritten (listing_of image.now.segments) (S.state out.old) (S.state out.new)
+        result }
     ensures faults { (S.state out.old).faults ≤ (S.state out.new).faults }
     ensures quiet { OnOk result ((S.state out.new).faults ≡ (S.state out.old).faults) }
 {

@@ -18,7 +18,8 @@ pub fn write_bytes<S: Sink>(
     out: &mut S,
 ) -> Result<(), SinkStop>
     requires { addr + length bytes.now < 2 ^ 32 }
-    ensures listed { IsWritten (bytes_lines addr bytes.now) (S.state out.old) (S.state out.new) result }
+    ensures listed { IsWritten (bytes_lines addr bytes.now) (S.state out.old) (S.state out.new)
+        result }
     ensures faults { (S.state out.old).faults ≤ (S.state out.new).faults }
     ensures quiet { OnOk result ((S.state out.new).faults ≡ (S.state out.old).faults) }
 {
@@ -45,7 +46,8 @@ fn write_word_line<S: Sink>(
     word: u32,
     out: &mut S,
 ) -> Result<(), SinkStop>
-    ensures listed { IsWritten (spec.word_line address word) (S.state out.old) (S.state out.new) result }
+    ensures listed { IsWritten (spec.word_line address word) (S.state out.old) (S.state out.new)
+        result }
     ensures faults { (S.state out.old).faults ≤ (S.state out.new).faults }
     ensures quiet { OnOk result ((S.state out.new).faults ≡ (S.state out.old).faults) }
 {
@@ -60,7 +62,8 @@ fn write_byte_line<S: Sink>(
     byte: u8,
     out: &mut S,
 ) -> Result<(), SinkStop>
-    ensures listed { IsWritten (spec.byte_line address byte) (S.state out.old) (S.state out.new) result }
+    ensures listed { IsWritten (spec.byte_line address byte) (S.state out.old) (S.state out.new)
+        result }
     ensures faults { (S.state out.old).faults ≤ (S.state out.new).faults }
     ensures quiet { OnOk result ((S.state out.new).faults ≡ (S.state out.old).faults) }
 {
@@ -80,7 +83,8 @@ fn word_line(alloc: Global, address: u32, word: u32) -> Result<Vec<u8>, NoMemory
 }
 
 fn word_start(alloc: Global, address: u32, word: u32) -> Result<String, NoMemory>
-    ensures { IfOk result (λ start. string_bytes start ≡ hex_digits 8 address ++ codes " " ++ hex_digits 8 word ++ codes " ") }
+    ensures { IfOk result (λ start. string_bytes start
+        ≡ hex_digits 8 address ++ codes " " ++ hex_digits 8 word ++ codes " ") }
 {
     Ok(format!(in alloc; "{address:08x} {word:08x} ")?)
 }

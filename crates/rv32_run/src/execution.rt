@@ -154,7 +154,8 @@ impl<'a, P: Processor, M: Ram> Execution<'a, P, M> {
     pub fn finish<S: Sink>(&mut self, out: &mut S) -> Ending
         requires within { self.old.retired ≤ self.old.budget }
         requires going { M.stopped self.old.memory ≡ None }
-        ensures ended { PrintsAndEnds (semantics_of P.core M.contents M.extent M.sound M.stopped M.moved) result
+        ensures ended { PrintsAndEnds (semantics_of P.core M.contents M.extent M.sound M.stopped
+            M.moved) result
             (S.state out.old) (S.state out.new) self.old self.new }
     {
         match self.advance(self.budget, out) {
@@ -178,13 +179,17 @@ fn turn<P: Processor, M: Ram, S: Sink>(
     requires going { M.stopped memory.old ≡ None }
 
     // Where the memory can be relied on, it goes on as the plain machine does.
-    ensures turns { (printed : List ℕ) × Prints (S.state out.old) calls.old.digest printed (S.state out.new) calls.new.digest
+    ensures turns { (printed : List ℕ)
+        × Prints (S.state out.old) calls.old.digest printed (S.state out.new) calls.new.digest
         × (M.sound memory.new → (start : Machine) (before : List ℕ) →
-        Reaches start retired.old (P.core processor.old) calls.old.services (M.contents memory.old) before →
-        Turns start budget result retired.new (P.core processor.new) calls.new.services (M.contents memory.new) (before ++ printed)) }
+        Reaches start retired.old (P.core processor.old) calls.old.services (M.contents memory.old)
+        before →
+        Turns start budget result retired.new (P.core processor.new) calls.new.services
+        (M.contents memory.new) (before ++ printed)) }
 
     ensures stands { M.sound memory.new → (start : Machine) (before : List ℕ) →
-        Reaches start retired.old (P.core processor.old) calls.old.services (M.contents memory.old) before →
+        Reaches start retired.old (P.core processor.old) calls.old.services (M.contents memory.old)
+        before →
         StandsAt (plain start retired.new) (P.core processor.new) calls.new.services }
 
     ensures within_budget { result ≢ Some OutOfSteps }
@@ -192,18 +197,23 @@ fn turn<P: Processor, M: Ram, S: Sink>(
 
     // Where the memory did not stop, it was out of memory only at an instruction that prints.
     ensures sink_stop { M.stopped memory.new ≡ None → M.sound memory.new → result ≡ Some NoMemory →
-        0 < length (prints_of (next (state_of (P.core processor.old) calls.old.services (M.contents memory.old)))) }
+        0 < length (prints_of
+        (next (state_of (P.core processor.old) calls.old.services (M.contents memory.old)))) }
 
     ensures mem { CarriesEnding (M.stopped memory.new) result }
-    ensures write_fault { result ≡ Some WriteFault → Rose (S.state out.old).faults (S.state out.new).faults }
+    ensures write_fault { result ≡ Some WriteFault →
+        Rose (S.state out.old).faults (S.state out.new).faults }
     ensures faults { (S.state out.old).faults ≤ (S.state out.new).faults }
     ensures quiet { result ≢ Some WriteFault → (S.state out.new).faults ≡ (S.state out.old).faults }
 
     // It touches the lines of the instruction, or a front part of them.
     ensures moved { GoesOn M.extent M.sound M.moved (λ lines. M.sound memory.new →
-        IsPrefix lines (touched_lines (state_of (P.core processor.old) calls.old.services (M.contents memory.old)))) memory.old memory.new }
-    ensures instruction { retired.old < retired.new → M.sound memory.new → (start : Machine) (before : List ℕ) →
-        Reaches start retired.old (P.core processor.old) calls.old.services (M.contents memory.old) before →
+        IsPrefix lines (touched_lines (state_of (P.core processor.old) calls.old.services
+        (M.contents memory.old)))) memory.old memory.new }
+    ensures instruction { retired.old < retired.new → M.sound memory.new →
+        (start : Machine) (before : List ℕ) →
+        Reaches start retired.old (P.core processor.old) calls.old.services (M.contents memory.old)
+        before →
         IsInstruction M.stopped M.contents M.moved start retired.old memory.old memory.new }
 {
     match processor.step(memory, calls, out) {

@@ -25,7 +25,8 @@ pub fn store_image<M: Ram>(ram: &mut M, image: &Image) -> Result<(), MemStop>
     ensures goes_on { OnOk result (M.stopped ram.new ≡ None) }
     ensures stops { IfErr result (λ stop. M.stopped ram.new ≡ Some stop) }
 
-    ensures moved { GoesOn M.extent M.sound M.moved (λ lines. AreTouched result (image_lines image.now.segments) lines) ram.old ram.new }
+    ensures moved { GoesOn M.extent M.sound M.moved
+        (λ lines. AreTouched result (image_lines image.now.segments) lines) ram.old ram.new }
 {
     for segment in image.segments.as_slice() {
         store_segment(ram, segment)?;
@@ -39,12 +40,14 @@ fn store_segment<M: Ram>(ram: &mut M, segment: &Segment) -> Result<(), MemStop>
     requires small { M.extent ram.old < 2 ^ 32 }
     requires going { M.stopped ram.old ≡ None }
 
-    ensures stored { M.sound ram.new → OnOk result (M.contents ram.new ≡ with_segment (M.contents ram.old) segment.now) }
+    ensures stored { M.sound ram.new →
+        OnOk result (M.contents ram.new ≡ with_segment (M.contents ram.old) segment.now) }
 
     ensures goes_on { OnOk result (M.stopped ram.new ≡ None) }
     ensures stops { IfErr result (λ stop. M.stopped ram.new ≡ Some stop) }
 
-    ensures moved { GoesOn M.extent M.sound M.moved (λ lines. AreTouched result (segment_lines segment.now) lines) ram.old ram.new }
+    ensures moved { GoesOn M.extent M.sound M.moved
+        (λ lines. AreTouched result (segment_lines segment.now) lines) ram.old ram.new }
 {
     let mut at = 0;
     while at < segment.length {
@@ -61,7 +64,8 @@ fn store_next<M: Ram>(ram: &mut M, segment: &Segment, at: u32) -> Result<u32, Me
     requires going { M.stopped ram.old ≡ None }
 
     ensures stored { M.sound ram.new → IfOk result (λ count. M.contents ram.new
-        ≡ with_bytes (M.contents ram.old) (segment.now.addr + at) (memory_bytes (segment_memory segment.now) at count)) }
+        ≡ with_bytes (M.contents ram.old) (segment.now.addr + at)
+        (memory_bytes (segment_memory segment.now) at count)) }
     ensures count { IfOk result (λ count. IsStoreOf segment.now at count) }
     ensures some { IfOk result (λ count. 0 < count) }
     ensures most { IfOk result (λ count. at + count ≤ segment.now.length) }
@@ -69,7 +73,8 @@ fn store_next<M: Ram>(ram: &mut M, segment: &Segment, at: u32) -> Result<u32, Me
     ensures goes_on { OnOk result (M.stopped ram.new ≡ None) }
     ensures stops { IfErr result (λ stop. M.stopped ram.new ≡ Some stop) }
 
-    ensures moved { GoesOn M.extent M.sound M.moved (λ lines. AreTouched result (line_of (segment.now.addr + at) ∷ []) lines) ram.old ram.new }
+    ensures moved { GoesOn M.extent M.sound M.moved
+        (λ lines. AreTouched result (line_of (segment.now.addr + at) ∷ []) lines) ram.old ram.new }
 {
     let addr = segment.addr + at;
     if addr % 4 == 0 && segment.length - at >= 4 {

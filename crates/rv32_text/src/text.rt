@@ -58,7 +58,9 @@ pub fn text_of(alloc: Global, inst: &Inst, pc: u32) -> Result<String, AllocError
 // FENCE and FENCE.I have a mnemonic for one word each; other words of theirs are written as data.
 fn fence_text(alloc: Global, mnemonic: &str, inst: &Inst) -> Result<String, AllocError>
     requires { IsInst inst.now }
-    ensures { IfOk result (λ text. string_bytes text ≡ (if is_unnamed_fence Fence (word_of inst.now) then spec.data_text (word_of inst.now) else mnemonic.now)) }
+    ensures { IfOk result (λ text. string_bytes text
+        ≡ (if is_unnamed_fence Fence (word_of inst.now) then spec.data_text (word_of inst.now) else
+        mnemonic.now)) }
 {
     let word = encode(inst);
     if word == 0x0ff0_000f || word == 0x0000_100f {
@@ -125,14 +127,16 @@ fn with_three(
     b: &str,
     c: &str,
 ) -> Result<String, AllocError>
-    ensures { IfOk result (λ text. string_bytes text ≡ instruction_text mnemonic.now (a.now ∷ b.now ∷ c.now ∷ [])) }
+    ensures { IfOk result (λ text. string_bytes text
+        ≡ instruction_text mnemonic.now (a.now ∷ b.now ∷ c.now ∷ [])) }
 {
     format!(in alloc; "{mnemonic} {a}, {b}, {c}")
 }
 
 // A mnemonic with two operands.
 fn with_two(alloc: Global, mnemonic: &str, a: &str, b: &str) -> Result<String, AllocError>
-    ensures { IfOk result (λ text. string_bytes text ≡ instruction_text mnemonic.now (a.now ∷ b.now ∷ [])) }
+    ensures { IfOk result (λ text. string_bytes text
+        ≡ instruction_text mnemonic.now (a.now ∷ b.now ∷ [])) }
 {
     format!(in alloc; "{mnemonic} {a}, {b}")
 }

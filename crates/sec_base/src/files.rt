@@ -37,14 +37,19 @@ pub trait Files {
         ensures bytes { IfOk result (HasBytes (state self.old).held name.now) }
         ensures within { IfOk result (λ bytes. length bytes ≤ limit) }
         ensures quiet { OnOk result ((state self.new).faults ≡ (state self.old).faults) }
-        ensures taken_bytes { IfOk result (λ bytes. RoseBy (length bytes) (state self.old).taken (state self.new).taken) }
+        ensures taken_bytes { IfOk result (λ bytes. RoseBy (length bytes) (state self.old).taken
+            (state self.new).taken) }
 
         ensures long { result ≡ Err Long → HasOver (state self.old).held name.now limit }
-        ensures taken_long { result ≡ Err Long → RoseBy (limit + 1) (state self.old).taken (state self.new).taken }
-        ensures failed { result ≡ Err Failed → Rose (state self.old).faults (state self.new).faults }
+        ensures taken_long { result ≡ Err Long →
+            RoseBy (limit + 1) (state self.old).taken (state self.new).taken }
+        ensures failed { result ≡ Err Failed →
+            Rose (state self.old).faults (state self.new).faults }
 
-        ensures asked { result ≢ Err no_memory → (state self.new).asked ≡ (state self.old).asked ++ name.now ∷ [] }
-        ensures asked_in_vain { result ≡ Err no_memory → ((state self.new).asked ≡ (state self.old).asked)
+        ensures asked { result ≢ Err no_memory →
+            (state self.new).asked ≡ (state self.old).asked ++ name.now ∷ [] }
+        ensures asked_in_vain { result ≡ Err no_memory →
+            ((state self.new).asked ≡ (state self.old).asked)
             ⊎ ((state self.new).asked ≡ (state self.old).asked ++ name.now ∷ []) }
 
         ensures held { (state self.new).held ≡ (state self.old).held }

@@ -56,7 +56,8 @@ impl Geometry {
     /// A tree of this layout with so many levels, where they are 1 to 8 for One and 1 to 5 for Two.
     pub fn with(layout: Layout, levels: u8) -> Option<Geometry>
         ensures some { IsSome result ↔ ((1 ≤ levels) × (levels ≤ most_levels layout)) }
-        ensures geometry { IfSome result (λ geometry. geometry ≡ record { layout = layout; levels = levels }) }
+        ensures geometry { IfSome result (λ geometry. geometry
+            ≡ record { layout = layout; levels = levels }) }
     {
         let most = match layout {
             Layout::One => 8,

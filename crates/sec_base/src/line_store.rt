@@ -35,11 +35,14 @@ pub trait LineStore {
     fn read_line(&mut self, line: u32) -> Result<[u8; 64], MemStop>
         requires inside { line < extent self.old }
 
-        ensures value { stopped self.old ≡ None → sound self.new → IfOk result (λ bytes. bytes ≡ line_at (contents self.old) line) }
-        ensures contents { stopped self.old ≡ None → sound self.new → contents self.new ≡ contents self.old }
+        ensures value { stopped self.old ≡ None → sound self.new →
+            IfOk result (λ bytes. bytes ≡ line_at (contents self.old) line) }
+        ensures contents { stopped self.old ≡ None → sound self.new →
+            contents self.new ≡ contents self.old }
 
         ensures goes_on { OnOk result (stopped self.new ≡ stopped self.old) }
-        ensures stops { stopped self.old ≡ None → IfErr result (λ stop. stopped self.new ≡ Some stop) }
+        ensures stops { stopped self.old ≡ None →
+            IfErr result (λ stop. stopped self.new ≡ Some stop) }
 
         ensures extent { extent self.new ≡ extent self.old }
         ensures lost { sound self.new → sound self.old }
@@ -52,10 +55,12 @@ pub trait LineStore {
         ensures stored { stopped self.old ≡ None → sound self.new →
             OnOk result (contents self.new ≡ with_line (contents self.old) line bytes.now) }
         ensures refused { stopped self.old ≡ None → sound self.new → OnErr result (
-            (contents self.new ≡ contents self.old) ⊎ (contents self.new ≡ with_line (contents self.old) line bytes.now)) }
+            (contents self.new ≡ contents self.old)
+            ⊎ (contents self.new ≡ with_line (contents self.old) line bytes.now)) }
 
         ensures goes_on { OnOk result (stopped self.new ≡ stopped self.old) }
-        ensures stops { stopped self.old ≡ None → IfErr result (λ stop. stopped self.new ≡ Some stop) }
+        ensures stops { stopped self.old ≡ None →
+            IfErr result (λ stop. stopped self.new ≡ Some stop) }
 
         ensures extent { extent self.new ≡ extent self.old }
         ensures lost { sound self.new → sound self.old }

@@ -79,7 +79,8 @@ impl MemoryFiles {
 
     // Counts a call, and answers whether it is to fail.
     fn ask(&mut self, name: &str) -> Result<bool, NoMemory>
-        ensures fails { IfOk result (λ failing. failing ≡ next_fails self.old.fails self.old.calls) }
+        ensures fails { IfOk result (λ failing. failing
+            ≡ next_fails self.old.fails self.old.calls) }
         ensures ok { OnOk result (self.new ≡ files_after_asking name.now self.old) }
         ensures err { OnErr result (self.new ≡ files_after_call self.old) }
     {
@@ -114,9 +115,11 @@ impl Files for MemoryFiles {
     /// A copy of a file, where the call isn't one that is to fail. A name that isn't there is a fault.
     fn read(&mut self, alloc: Global, name: &str, limit: u64) -> Result<Bytes, ReadStop>
         ensures answer { result ≢ Err no_memory → result ≡ read_answer self.old name.now limit }
-        ensures after { result ≢ Err no_memory → self.new ≡ files_after_read name.now limit self.old }
+        ensures after { result ≢ Err no_memory →
+            self.new ≡ files_after_read name.now limit self.old }
         ensures in_vain { result ≡ Err no_memory → (self.new ≡ files_after_call self.old)
-            ⊎ (IsOk (read_answer self.old name.now limit) × (self.new ≡ files_after_read name.now limit self.old)) }
+            ⊎ (IsOk (read_answer self.old name.now limit)
+            × (self.new ≡ files_after_read name.now limit self.old)) }
 
         ensures faults { self.old.faults ≤ self.new.faults }
         ensures taken { self.old.taken ≤ self.new.taken }

@@ -34,12 +34,15 @@ pub trait Ram {
         requires inside { addr + width_bytes width ≤ extent self.old }
         requires aligned { addr % width_bytes width ≡ 0 }
 
-        ensures value { stopped self.old ≡ None → sound self.new → IfOk result (λ n. n ≡ number_at (contents self.old) addr width) }
+        ensures value { stopped self.old ≡ None → sound self.new →
+            IfOk result (λ n. n ≡ number_at (contents self.old) addr width) }
         ensures fits { IfOk result (λ n. n < 2 ^ (8 * width_bytes width)) }
-        ensures contents { stopped self.old ≡ None → sound self.new → contents self.new ≡ contents self.old }
+        ensures contents { stopped self.old ≡ None → sound self.new →
+            contents self.new ≡ contents self.old }
 
         ensures goes_on { OnOk result (stopped self.new ≡ stopped self.old) }
-        ensures stops { stopped self.old ≡ None → IfErr result (λ stop. stopped self.new ≡ Some stop) }
+        ensures stops { stopped self.old ≡ None →
+            IfErr result (λ stop. stopped self.new ≡ Some stop) }
 
         ensures extent { extent self.new ≡ extent self.old }
         ensures lost { sound self.new → sound self.old }
@@ -53,10 +56,12 @@ pub trait Ram {
         ensures stored { stopped self.old ≡ None → sound self.new →
             OnOk result (contents self.new ≡ with_number (contents self.old) addr width value) }
         ensures refused { stopped self.old ≡ None → sound self.new → OnErr result (
-            (contents self.new ≡ contents self.old) ⊎ (contents self.new ≡ with_number (contents self.old) addr width value)) }
+            (contents self.new ≡ contents self.old)
+            ⊎ (contents self.new ≡ with_number (contents self.old) addr width value)) }
 
         ensures goes_on { OnOk result (stopped self.new ≡ stopped self.old) }
-        ensures stops { stopped self.old ≡ None → IfErr result (λ stop. stopped self.new ≡ Some stop) }
+        ensures stops { stopped self.old ≡ None →
+            IfErr result (λ stop. stopped self.new ≡ Some stop) }
 
         ensures extent { extent self.new ≡ extent self.old }
         ensures lost { sound self.new → sound self.old }

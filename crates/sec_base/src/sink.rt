@@ -39,13 +39,15 @@ pub trait Sink {
 
     /// Writes the first bytes of a piece, and answers how many.
     fn write(&mut self, piece: &[u8]) -> Result<usize, SinkStop>
-        ensures taken { IfOk result (λ n. Gains (state self.old) (take n piece.now) (state self.new)) }
+        ensures taken { IfOk result
+            (λ n. Gains (state self.old) (take n piece.now) (state self.new)) }
         ensures most { IfOk result (λ n. n ≤ length piece.now) }
         ensures least { IfOk result (λ n. 0 < length piece.now → 0 < n) }
         ensures empty { piece.now ≡ [] → result ≡ Ok 0 }
         ensures err { OnErr result (IsSilent (state self.old) (state self.new)) }
 
-        ensures failed { result ≡ Err Failed → Rose (state self.old).faults (state self.new).faults }
+        ensures failed { result ≡ Err Failed →
+            Rose (state self.old).faults (state self.new).faults }
         ensures quiet { result ≢ Err Failed → (state self.new).faults ≡ (state self.old).faults }
         ensures faults { (state self.old).faults ≤ (state self.new).faults };
 }

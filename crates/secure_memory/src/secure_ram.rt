@@ -65,8 +65,10 @@ impl<B: Bus, T: Tagger> SecureRam<B, T> {
         requires geometry { (B.history bus).geometry ≡ geometry }
         requires nothing_written { NothingWritten (B.history bus) }
 
-        ensures new { IfOk result (λ memory. AreNew bus tagger keys.now.enc_key geometry page_limit memory.lines) }
-        ensures lines_fit { IfOk result (λ memory. LinesFit T.data_tag_of T.node_tag_of B.history memory.lines) }
+        ensures new { IfOk result (λ memory. AreNew bus tagger keys.now.enc_key geometry page_limit
+            memory.lines) }
+        ensures lines_fit { IfOk result (λ memory. LinesFit T.data_tag_of T.node_tag_of B.history
+            memory.lines) }
         ensures empty { IfOk result (λ memory. memory.ways ≡ new_cache line_sets) }
         ensures none_held { IfOk result (λ memory. held_lines memory ≡ []) }
         ensures none_cached { IfOk result (λ memory. cached_pages memory ≡ []) }
@@ -158,19 +160,23 @@ impl<B: Bus, T: Tagger> Ram for SecureRam<B, T> {
         requires inside { addr + width_bytes width ≤ 64 * lines_of self.old }
         requires aligned { addr % width_bytes width ≡ 0 }
 
-        ensures value { stopped self.old ≡ None → IsQuiet self.new → IfOk result (λ n. n ≡ number_at (contents self.old) addr width) }
+        ensures value { stopped self.old ≡ None → IsQuiet self.new →
+            IfOk result (λ n. n ≡ number_at (contents self.old) addr width) }
         ensures fits { IfOk result (λ n. n < 2 ^ (8 * width_bytes width)) }
-        ensures contents { stopped self.old ≡ None → IsQuiet self.new → contents self.new ≡ contents self.old }
+        ensures contents { stopped self.old ≡ None → IsQuiet self.new →
+            contents self.new ≡ contents self.old }
 
         ensures goes_on { OnOk result (stopped self.new ≡ stopped self.old) }
         ensures stops { IfErr result (λ stop. stopped self.new ≡ Some stop) }
 
         ensures extent { 64 * lines_of self.new ≡ 64 * lines_of self.old }
         ensures lost { IsQuiet self.new → IsQuiet self.old }
-        ensures moved { IsMoved B.history B.moved (tags_of T.data_tag_of T.node_tag_of) self.old (line_of addr ∷ []) self.new }
+        ensures moved { IsMoved B.history B.moved (tags_of T.data_tag_of T.node_tag_of) self.old
+            (line_of addr ∷ []) self.new }
 
         // The first stop is answered again, and nothing is done.
-        ensures latched { (stop : MemStop) → stopped self.old ≡ Some stop → (result ≡ Err stop) × (self.new ≡ self.old) }
+        ensures latched { (stop : MemStop) → stopped self.old ≡ Some stop → (result ≡ Err stop)
+            × (self.new ≡ self.old) }
 
         // What it costs, reads and encrypts, and when it stops.
         ensures call { stopped self.old ≡ None → IsLineCall B.history self.old (line_of addr)
@@ -181,23 +187,27 @@ impl<B: Bus, T: Tagger> Ram for SecureRam<B, T> {
         ensures missed { stopped self.old ≡ None → ¬ Contains (held_lines self.old) (line_of addr) →
             IsMissed (ReadMoved B.history B.moved (tags_of T.data_tag_of T.node_tag_of))
             (WriteMoved B.history B.moved (tags_of T.data_tag_of T.node_tag_of))
-            self.old.ways self.old.lines (line_of addr) (λ bytes. bytes) (result_err result) self.new.ways self.new.lines }
+            self.old.ways self.old.lines (line_of addr) (λ bytes. bytes) (result_err result)
+            self.new.ways self.new.lines }
 
         // The line becomes the most recently used one of its set, and a load marks no line. Where the write of the line that
         // goes out stops, that one stays.
-        ensures ways { stopped self.old ≡ None → OnOk result ((copy : List ℕ) × (copy_at self.new.ways (line_of addr) ≡ Some copy)
+        ensures ways { stopped self.old ≡ None →
+            OnOk result ((copy : List ℕ) × (copy_at self.new.ways (line_of addr) ≡ Some copy)
             × (self.new.ways ≡ brought self.old.ways (line_of addr) copy)) }
         ensures ways_left { stopped self.old ≡ None → IfErr result (λ stop. IsStoppedMiss
             (ReadMoved B.history B.moved (tags_of T.data_tag_of T.node_tag_of))
             (WriteMoved B.history B.moved (tags_of T.data_tag_of T.node_tag_of))
-            (leaving self.old.ways (line_of addr)) self.old.ways self.old.lines (line_of addr) stop self.new.ways self.new.lines) }
+            (leaving self.old.ways (line_of addr)) self.old.ways self.old.lines (line_of addr) stop
+            self.new.ways self.new.lines) }
 
         // What stands outside fits what the chip has of it.
         ensures lines_fit { stopped self.new ≡ None → IsQuiet self.new →
             LinesFit T.data_tag_of T.node_tag_of B.history self.new.lines }
 
         // Sound or not, what is answered stands in the line's copy.
-        ensures copy { IfOk result (λ n. (copy : List ℕ) → copy_at self.new.ways (line_of addr) ≡ Some copy →
+        ensures copy { IfOk result (λ n. (copy : List ℕ) → copy_at self.new.ways (line_of addr)
+            ≡ Some copy →
             n ≡ number_at copy (addr % 64) width) }
     {
         if let Some(stop) = self.lines.stopped() {
@@ -214,20 +224,24 @@ impl<B: Bus, T: Tagger> Ram for SecureRam<B, T> {
         ensures stored { stopped self.old ≡ None → IsQuiet self.new →
             OnOk result (contents self.new ≡ with_number (contents self.old) addr width value) }
         ensures refused { stopped self.old ≡ None → IsQuiet self.new → OnErr result (
-            (contents self.new ≡ contents self.old) ⊎ (contents self.new ≡ with_number (contents self.old) addr width value)) }
+            (contents self.new ≡ contents self.old)
+            ⊎ (contents self.new ≡ with_number (contents self.old) addr width value)) }
 
         // A store that stops changes no byte.
-        ensures unchanged { stopped self.old ≡ None → IsQuiet self.new → OnErr result (contents self.new ≡ contents self.old) }
+        ensures unchanged { stopped self.old ≡ None → IsQuiet self.new →
+            OnErr result (contents self.new ≡ contents self.old) }
 
         ensures goes_on { OnOk result (stopped self.new ≡ stopped self.old) }
         ensures stops { IfErr result (λ stop. stopped self.new ≡ Some stop) }
 
         ensures extent { 64 * lines_of self.new ≡ 64 * lines_of self.old }
         ensures lost { IsQuiet self.new → IsQuiet self.old }
-        ensures moved { IsMoved B.history B.moved (tags_of T.data_tag_of T.node_tag_of) self.old (line_of addr ∷ []) self.new }
+        ensures moved { IsMoved B.history B.moved (tags_of T.data_tag_of T.node_tag_of) self.old
+            (line_of addr ∷ []) self.new }
 
         // The first stop is answered again, and nothing is done.
-        ensures latched { (stop : MemStop) → stopped self.old ≡ Some stop → (result ≡ Err stop) × (self.new ≡ self.old) }
+        ensures latched { (stop : MemStop) → stopped self.old ≡ Some stop → (result ≡ Err stop)
+            × (self.new ≡ self.old) }
 
         // What it costs, reads and encrypts, and when it stops.
         ensures call { stopped self.old ≡ None → IsLineCall B.history self.old (line_of addr)
@@ -237,23 +251,28 @@ impl<B: Bus, T: Tagger> Ram for SecureRam<B, T> {
         ensures missed { stopped self.old ≡ None → ¬ Contains (held_lines self.old) (line_of addr) →
             IsMissed (ReadMoved B.history B.moved (tags_of T.data_tag_of T.node_tag_of))
             (WriteMoved B.history B.moved (tags_of T.data_tag_of T.node_tag_of))
-            self.old.ways self.old.lines (line_of addr) (λ bytes. with_number bytes (addr % 64) width value) (result_err result) self.new.ways self.new.lines }
+            self.old.ways self.old.lines (line_of addr)
+            (λ bytes. with_number bytes (addr % 64) width value) (result_err result) self.new.ways
+            self.new.lines }
 
         // The line becomes the most recently used one of its set, and is marked. Where the write of the line that goes out
         // stops, that one stays.
         ensures ways { stopped self.old ≡ None → OnOk result ((copy : List ℕ) × (self.new.ways
-            ≡ with_changed (brought self.old.ways (line_of addr) copy) (line_of addr) (with_number copy (addr % 64) width value))) }
+            ≡ with_changed (brought self.old.ways (line_of addr) copy) (line_of addr)
+            (with_number copy (addr % 64) width value))) }
         ensures ways_left { stopped self.old ≡ None → IfErr result (λ stop. IsStoppedMiss
             (ReadMoved B.history B.moved (tags_of T.data_tag_of T.node_tag_of))
             (WriteMoved B.history B.moved (tags_of T.data_tag_of T.node_tag_of))
-            (leaving self.old.ways (line_of addr)) self.old.ways self.old.lines (line_of addr) stop self.new.ways self.new.lines) }
+            (leaving self.old.ways (line_of addr)) self.old.ways self.old.lines (line_of addr) stop
+            self.new.ways self.new.lines) }
 
         // What stands outside fits what the chip has of it.
         ensures lines_fit { stopped self.new ≡ None → IsQuiet self.new →
             LinesFit T.data_tag_of T.node_tag_of B.history self.new.lines }
 
         // A line that is held gets the number in its copy.
-        ensures held_copy { stopped self.old ≡ None → (copy : List ℕ) → copy_at self.old.ways (line_of addr) ≡ Some copy →
+        ensures held_copy { stopped self.old ≡ None → (copy : List ℕ) →
+            copy_at self.old.ways (line_of addr) ≡ Some copy →
             copy_at self.new.ways (line_of addr) ≡ Some (with_number copy (addr % 64) width value) }
     {
         if let Some(stop) = self.lines.stopped() {

@@ -87,9 +87,12 @@ impl CounterBlock {
         ensures is_block { IsCounterBlock self.new }
 
         // An ordinary write changes the line counter of that place alone.
-        ensures line { (counter : Counter) → result ≡ Line counter → counter ≡ counter_of place self.new }
-        ensures page_stays { (counter : Counter) → result ≡ Line counter → self.new.page ≡ self.old.page }
-        ensures others_stay { (counter : Counter) (other : ℕ) → result ≡ Line counter → other ≢ place →
+        ensures line { (counter : Counter) → result ≡ Line counter →
+            counter ≡ counter_of place self.new }
+        ensures page_stays { (counter : Counter) → result ≡ Line counter →
+            self.new.page ≡ self.old.page }
+        ensures others_stay { (counter : Counter) (other : ℕ) → result ≡ Line counter →
+            other ≢ place →
             slice_index self.new.lines other ≡ slice_index self.old.lines other }
 
         ensures overflow { (page : ℕ) → result ≡ Page page → (page ≡ self.old.page + 1)
@@ -101,7 +104,8 @@ impl CounterBlock {
 
         // The line's counter, page and line counter as one number, goes up by one.
         ensures next { result ≢ Spent →
-            counter_number (counter_of place self.new) ≡ counter_number (counter_of place self.old) + 1 }
+            counter_number (counter_of place self.new)
+            ≡ counter_number (counter_of place self.old) + 1 }
     {
         let outcome = Bumped::of(self.get(place), limit);
         match outcome {

@@ -204,7 +204,8 @@ impl<T: Tagger> TagEngine<T> {
     // The tag of a data line's message.
     #[tactic(auto, unfolding(crate::specs::Tag::engine_tag))]
     fn line_tag(&self, line: u32, counter: Counter, cipher: &[u8; 64]) -> [u8; 16]
-        ensures { result ≡ tags_of T.data_tag_of T.node_tag_of self.now (Line line counter cipher.now) }
+        ensures { result ≡ tags_of T.data_tag_of T.node_tag_of self.now
+            (Line line counter cipher.now) }
     {
         let bytes = self.tagger.data_tag(&data_message(line, counter, cipher));
         mark(self.geometry.layout(), bytes)
@@ -213,7 +214,8 @@ impl<T: Tagger> TagEngine<T> {
     // The tag of a node's message.
     #[tactic(auto, unfolding(crate::specs::Tag::engine_tag))]
     fn node_tag(&self, level: u8, index: u32, block: &[u8; 64]) -> [u8; 16]
-        ensures { result ≡ tags_of T.data_tag_of T.node_tag_of self.now (Node level index block.now) }
+        ensures { result ≡ tags_of T.data_tag_of T.node_tag_of self.now
+            (Node level index block.now) }
     {
         let bytes = self.tagger.node_tag(&node_message(level, index, block));
         mark(self.geometry.layout(), bytes)

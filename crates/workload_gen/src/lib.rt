@@ -39,7 +39,8 @@ pub fn make(alloc: Global, number: u32) -> Result<Image, NoMemory>
 // The program of the text. Fails only if out of memory.
 fn assembled_text(alloc: Global) -> Result<Image, NoMemory>
     ensures program { IfOk result (λ image.
-        IsOkAnd (assembled_program workload_text 1048576) (λ program. IsImageOf 1048576 program image)) }
+        IsOkAnd (assembled_program workload_text 1048576)
+        (λ program. IsImageOf 1048576 program image)) }
 {
     match assemble(alloc, TEXT.as_bytes(), MEMORY_SIZE) {
         Ok(image) => Ok(image),

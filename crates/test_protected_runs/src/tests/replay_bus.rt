@@ -34,7 +34,8 @@ impl Lies {
     fn tell(&mut self, access: u64, place: Place, bytes: Vec<u8>)
         ensures count { self.new.count ≡ more_by 1 self.old.count }
         ensures first { self.new.first ≡ (if self.old.count == 0
-            then Some (record { access = access; place = place; bytes = bytes }) else self.old.first) }
+            then Some (record { access = access; place = place; bytes = bytes }) else
+            self.old.first) }
     {
         if self.count == 0 {
             self.first = Some(FalseAnswer {
@@ -77,7 +78,8 @@ impl Stale {
     }
 
     fn keep_line(&mut self, line: u32, sealed: &Sealed)
-        ensures { (layout : Layout) → IsTag layout sealed.now.tag → IsTag layout self.old.line.tag → IsTag layout self.new.line.tag }
+        ensures { (layout : Layout) → IsTag layout sealed.now.tag → IsTag layout self.old.line.tag →
+            IsTag layout self.new.line.tag }
     {
         if line == 2053 && !self.is_kept {
             self.line = *sealed;
