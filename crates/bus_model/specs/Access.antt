@@ -74,22 +74,3 @@ after_joined (access ∷ before) after history = after_joined before after (afte
 pub came_on : (first second third : BusHistory) (before after : List Access) → CameBy first before second → CameBy second after third →
     CameBy first (before ++ after) third
 came_on first second third before after came more = more ∙ ap (after_all after) came ∙ sym (after_joined before after first)
-
--- Some accesses lead from one bus to another.
-pub record Reaches {B : Type 0} (moved : B → List Access → B → Type 0) (old new : B) : Type 0 where
-  pub accesses : List Access
-  pub by : moved old accesses new
-
-pub reaches_none : {B : Type 0} (moved : B → List Access → B → Type 0) → ((bus : B) → moved bus [] bus) → (bus : B) → Reaches moved bus bus
-reaches_none moved unmoved bus = record {
-  accesses = [];
-  by = unmoved bus;
-}
-
-pub reaches_on : {B : Type 0} (moved : B → List Access → B → Type 0)
-    → ((first second third : B) (before after : List Access) → moved first before second → moved second after third → moved first (before ++ after) third)
-    → (first second third : B) → Reaches moved first second → Reaches moved second third → Reaches moved first third
-reaches_on moved moved_on first second third before after = record {
-  accesses = before.accesses ++ after.accesses;
-  by = moved_on first second third before.accesses after.accesses before.by after.by;
-}
