@@ -6,7 +6,7 @@ use Rattle.std.proofs.lemmas.Option.{same_Some}
 use Rattle.sec_base.specs.Count.{Rose}
 use Rattle.sec_base.specs.Geometry.{IsNode}
 use Rattle.sec_base.specs.Evidence.{NodeFails}
-use Rattle.sec_base.specs.LastMessage.{last_node, node_part}
+use Rattle.sec_base.specs.LastMessage.{node_part}
 use Rattle.sec_base.specs.declared.counter.Counter.{Counter}
 use Rattle.sec_base.specs.declared.evidence.Evidence.{Evidence}
 use Rattle.sec_base.specs.declared.evidence.Evidence.TheVariants.{Collision}
@@ -27,9 +27,9 @@ use Rattle.checked_bus.specs.Checks.{PassedNode, FailedNode, IsCheckedNode}
 use Rattle.checked_bus.specs.Makes.{IsShownIn, ReadsPlace}
 use Rattle.checked_bus.specs.Steps.{IsAccounted, IsCurrentNode, Moves, ReadsOnce, SameLines, SamePlace}
 use Rattle.checked_bus.proofs.FalseAnswers.{lie_comes, lie_rises, first_lie_stays}
-use Rattle.checked_bus.proofs.Evidences.{first_stays, or_none, by_evidence, none_found}
+use Rattle.checked_bus.proofs.Evidences.{first_stays, by_evidence, none_found}
 use Rattle.checked_bus.proofs.PlaceReads.{answer_makes, answer_moves, answer_once, answer_others, answer_lines, answer_accounted, nothing_moves, nothing_once, nothing_others, nothing_lines, told_last}
-use Rattle.checked_bus.proofs.CheckedReads.{tampered, none_lied, still_honest, ended_accounted}
+use Rattle.checked_bus.proofs.CheckedReads.{tampered, none_lied, still_honest, nothing_accounted}
 
 pub no_line : (level index line : ℕ) → line_place line ≢ node_place level index
 no_line level index line same = absurd (cc)
@@ -52,17 +52,16 @@ module _ {T : Type 0} (tag_of : Message → List ℕ) (level index : ℕ) (tag :
       (ap (λ (e : TagEngineView T). e.made) read.1.unchanged)
       (λ evidence is. ap (λ (e : TagEngineView T). e.evidence) read.1.unchanged ∙ is)
 
-  pub node_once : (result : Result (List ℕ) MemStop) → IsNode history.geometry level index →
-      IsCheckedNode tag_of level index tag history history' engine engine' result →
+  pub node_once : (result : Result (List ℕ) MemStop) → IsCheckedNode tag_of level index tag history history' engine engine' result →
       ReadsOnce (node_place level index) history engine history' engine' (result_err result)
-  node_once (Ok answer) inside passed =
+  node_once (Ok answer) passed =
       answer_once (node_place level index) passed.block history history' engine engine' None passed.answered
-      (ap (λ (e : TagEngineView T). e.made) passed.checked) (ap (λ (e : TagEngineView T). e.room) passed.checked) inside (λ none. cc)
-  node_once (Err (Spent page)) inside read = absurd read
-  node_once (Err NoMemory) inside read = nothing_once (node_place level index) history history' engine engine' read.0 read.1
-  node_once (Err (Tampered place)) inside read =
+      (ap (λ (e : TagEngineView T). e.made) passed.checked) (ap (λ (e : TagEngineView T). e.room) passed.checked) (λ none. cc)
+  node_once (Err (Spent page)) read = absurd read
+  node_once (Err NoMemory) read = nothing_once (node_place level index) history history' engine engine' read.0 read.1
+  node_once (Err (Tampered place)) read =
       answer_once (node_place level index) read.1.block history history' engine engine' (Some (Tampered place)) read.1.answered
-      (ap (λ (e : TagEngineView T). e.made) read.1.unchanged) (ap (λ (e : TagEngineView T). e.room) read.1.unchanged) inside (λ none. cc)
+      (ap (λ (e : TagEngineView T). e.made) read.1.unchanged) (ap (λ (e : TagEngineView T). e.room) read.1.unchanged) (λ none. cc)
 
   pub node_others : (result : Result (List ℕ) MemStop) (other : Place) → other ≢ node_place level index →
       IsCheckedNode tag_of level index tag history history' engine engine' result → SamePlace other history engine.made history' engine'.made
@@ -111,16 +110,6 @@ module _ {T : Type 0} (tag_of : Message → List ℕ) (level index : ℕ) (tag :
   stopped_quiet (Tampered place) evidence read quiet shown =
       let same : engine'.evidence ≡ None = ap (λ (e : TagEngineView T). e.evidence) read.1.unchanged ∙ quiet in absurd (cc)
 
-  -- Where there was no memory
-
-  refused_accounted : (used : List (ℕ × Counter)) → IsCheckedNode tag_of level index tag history history' engine engine' (Err NoMemory) →
-      IsAccounted tag_of used engine.made history None engine.evidence →
-      IsAccounted tag_of used engine'.made history' (Some NoMemory) engine'.evidence
-  refused_accounted used read was =
-      subst (λ (t : BusHistory). IsAccounted tag_of used engine'.made t (Some NoMemory) engine'.evidence) (sym read.0)
-      (subst (λ (e : TagEngineView T). IsAccounted tag_of used e.made history (Some NoMemory) e.evidence) (sym read.1)
-      (ended_accounted tag_of used engine.made history NoMemory engine.evidence (λ place is. cc) was))
-
   -- With evidence from before, under any tag
 
   after_evidence : (used : List (ℕ × Counter)) (first : Evidence) → engine.evidence ≡ Some first → (result : Result (List ℕ) MemStop) →
@@ -131,7 +120,7 @@ module _ {T : Type 0} (tag_of : Message → List ℕ) (level index : ℕ) (tag :
       answer_accounted (node_place level index) passed.block history history' engine engine' tag_of used None first passed.answered
       (ap (λ (e : TagEngineView T). e.made) passed.checked) before (moves.evidence first before) was
   after_evidence used first before (Err (Spent page)) read was = absurd read
-  after_evidence used first before (Err NoMemory) read was = refused_accounted used read was
+  after_evidence used first before (Err NoMemory) read was = nothing_accounted tag_of used history history' engine engine' read.0 read.1 was
   after_evidence used first before (Err (Tampered place)) read was =
       answer_accounted (node_place level index) read.1.block history history' engine engine' tag_of used (Some (Tampered place)) first read.1.answered
       (ap (λ (e : TagEngineView T). e.made) read.1.unchanged) before (ap (λ (e : TagEngineView T). e.evidence) read.1.unchanged ∙ before) was
@@ -156,14 +145,6 @@ module _ {T : Type 0} (tag_of : Message → List ℕ) (level index : ℕ) (tag :
     -- a block with it and without evidence is the last one
     last_answered : (block : List ℕ) → collision_of tag_of engine.made level index block tag true ≡ None → block ≡ current.block
     last_answered block unshown = known tag_of engine.made level index block tag current.block (sym unshown) current.last current.tagged
-
-    pub node_known : (answer : List ℕ) → PassedNode tag_of level index tag history history' engine engine' answer → engine'.evidence ≡ None →
-        last_node level index engine.made ≡ Some answer
-    node_known answer passed quiet =
-        let unshown : collision_of tag_of engine.made level index passed.block tag true ≡ None =
-        or_none engine.evidence (collision_of tag_of engine.made level index passed.block tag true)
-        (sym (ap (λ (e : TagEngineView T). e.evidence) passed.checked) ∙ quiet) in
-        current.last ∙ ap (λ (x : List ℕ). Some x) (sym (passed.given ∙ last_answered passed.block unshown))
 
     block_fails : (block : List ℕ) → tag ≢ tag_of (Node level index block) → NodeFails tag_of engine.made level index block
     block_fails block untagged = record {
@@ -266,7 +247,7 @@ module _ {T : Type 0} (tag_of : Message → List ℕ) (level index : ℕ) (tag :
             genuine = passed.genuine;
           }))
       node_accounted (Err (Spent page)) read was = absurd read
-      node_accounted (Err NoMemory) read was = refused_accounted used read was
+      node_accounted (Err NoMemory) read was = nothing_accounted tag_of used history history' engine engine' read.0 read.1 was
       node_accounted (Err (Tampered place)) read was =
           subst (λ (p : Place). IsAccounted tag_of used engine'.made history' (Some (Tampered p)) engine'.evidence) (sym read.0)
           (subst (λ (t : BusHistory). IsAccounted tag_of used engine'.made t (Some (Tampered (node_place level index))) engine'.evidence) (sym read.1.answered)

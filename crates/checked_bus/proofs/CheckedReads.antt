@@ -22,7 +22,10 @@ use Rattle.bus_model.specs.Access.{Read}
 use Rattle.bus_model.specs.BusHistory.{BusHistory, after_answer}
 use Rattle.bus_model.specs.FirstLie.{AccountsForLies, HonestOrCaught, IsOfFirstLie}
 use Rattle.bus_model.proofs.Steps.{answered}
-use Rattle.tag_engine.specs.TagEngine.{TagEngineView, forgery_of}
+use Rattle.sec_base.specs.Message.{data_bytes}
+use Rattle.tag_engine.specs.Tag.{engine_tag}
+use Rattle.tag_engine.specs.TagEngine.{TagEngineView, forgery_of, tags_of}
+use Rattle.tag_engine.proofs.Marks.{marked_long}
 use Rattle.tag_engine.proofs.Forgeries.{known}
 use Rattle.checked_bus.specs.Checks.{after_line, Passed, Failed, IsCheckedRead}
 use Rattle.checked_bus.specs.SealedLine.{sealed_line}
@@ -32,6 +35,14 @@ use Rattle.checked_bus.proofs.LineMessages.{last_made, last_pair-some}
 use Rattle.checked_bus.proofs.FalseAnswers.{lie_comes, lie_rises, first_lie_stays}
 use Rattle.checked_bus.proofs.Evidences.{shown_is, first_stays, by_evidence, none_found}
 use Rattle.checked_bus.proofs.PlaceReads.{answer_makes, answer_moves, answer_once, answer_others, answer_accounted, nothing_makes, nothing_moves, nothing_once, nothing_others, told_last}
+
+-- the tags of lines are 16 bytes long
+pub line_tags_long : {T : Type 0} (data_tag_of node_tag_of : T → List ℕ → List ℕ) (engine : TagEngineView T) (line : ℕ) (counter : Counter) →
+    ((tagger : T) (message : List ℕ) → length (data_tag_of tagger message) ≡ 16) → (cipher : List ℕ) →
+    length (tags_of data_tag_of node_tag_of engine (Line line counter cipher)) ≡ 16
+unfolding engine_tag
+line_tags_long data_tag_of node_tag_of engine line counter long cipher =
+    marked_long engine.geometry.layout (data_tag_of engine.tagger (data_bytes line counter cipher)) (long engine.tagger (data_bytes line counter cipher))
 
 -- The 80 bytes of a place
 
@@ -74,16 +85,14 @@ ended_accounted tag_of used made history stop evidence untampered was = record {
   genuine = was.genuine;
 }
 
--- while nothing stopped, whatever pads were used
-pub accounted_any : (tag_of : Message → List ℕ) (used more : List (ℕ × Counter)) (made : List Message) (history : BusHistory) (evidence : Option Evidence) →
-    IsAccounted tag_of used made history None evidence → IsAccounted tag_of more made history None evidence
-accounted_any tag_of used more made history evidence was = record {
-  account = record {
-    answers = λ quiet. still_honest tag_of more made history None (none_lied tag_of used made history (was.account.answers quiet)) (λ place taken. cc);
-    shown = was.account.shown;
-  };
-  genuine = was.genuine;
-}
+-- no memory for a read
+pub nothing_accounted : {T : Type 0} (tag_of : Message → List ℕ) (used : List (ℕ × Counter)) (history history' : BusHistory) (engine engine' : TagEngineView T) →
+    history' ≡ history → engine' ≡ engine → IsAccounted tag_of used engine.made history None engine.evidence →
+    IsAccounted tag_of used engine'.made history' (Some NoMemory) engine'.evidence
+nothing_accounted {T} tag_of used history history' engine engine' same unchanged was =
+    subst (λ (t : BusHistory). IsAccounted tag_of used engine'.made t (Some NoMemory) engine'.evidence) (sym same)
+    (subst (λ (e : TagEngineView T). IsAccounted tag_of used e.made history (Some NoMemory) e.evidence) (sym unchanged)
+    (ended_accounted tag_of used engine.made history NoMemory engine.evidence (λ place is. cc) was))
 
 -- A read that there was no memory for is no access
 pub refused_makes : {T : Type 0} (tag_of : Message → List ℕ) (expected : List (ℕ × Counter) → Type 0) (place : Place) (history history' : BusHistory)
@@ -94,9 +103,7 @@ refused_makes {T} tag_of expected place history history' engine engine' result i
     subst (λ (r : Result (List ℕ) MemStop). ReadsPlace tag_of expected place history engine history' engine' [] (result_err r)) (sym is) (record {
       once = refl;
       makes = nothing_makes tag_of expected history history' engine engine' (Some NoMemory) same unchanged (λ place is. cc) (record {
-        honest = λ used expects was. subst (λ (t : BusHistory). IsAccounted tag_of used engine'.made t (Some NoMemory) engine'.evidence) (sym same)
-            (subst (λ (e : TagEngineView T). IsAccounted tag_of used e.made history (Some NoMemory) e.evidence) (sym unchanged)
-            (ended_accounted tag_of used engine.made history NoMemory engine.evidence (λ place is. cc) was));
+        honest = λ used expects was. nothing_accounted tag_of used history history' engine engine' same unchanged was;
         found = λ used expects quiet. inl (evidence_is ∙ quiet, λ place is. cc);
         first = λ evidence is. evidence_is ∙ is;
       });
@@ -120,17 +127,16 @@ module _ {T : Type 0} (tag_of : Message → List ℕ) (line : ℕ) (counter : Co
 
   -- It is one read
 
-  pub read_once : (result : Result (List ℕ) MemStop) → line < line_count history.geometry →
-      IsCheckedRead tag_of line counter history history' engine engine' result →
+  pub read_once : (result : Result (List ℕ) MemStop) → IsCheckedRead tag_of line counter history history' engine engine' result →
       ReadsOnce (line_place line) history engine history' engine' (result_err result)
-  read_once (Ok cipher) inside passed =
+  read_once (Ok cipher) passed =
       answer_once (line_place line) (sealed_bytes passed.sealed) history history' engine engine' None passed.answered
-      (ap (λ (e : TagEngineView T). e.made) passed.checked) (ap (λ (e : TagEngineView T). e.room) passed.checked) inside (λ none. cc)
-  read_once (Err (Spent page)) inside read = absurd read
-  read_once (Err NoMemory) inside read = nothing_once (line_place line) history history' engine engine' read.0 read.1
-  read_once (Err (Tampered place)) inside read =
+      (ap (λ (e : TagEngineView T). e.made) passed.checked) (ap (λ (e : TagEngineView T). e.room) passed.checked) (λ none. cc)
+  read_once (Err (Spent page)) read = absurd read
+  read_once (Err NoMemory) read = nothing_once (line_place line) history history' engine engine' read.0 read.1
+  read_once (Err (Tampered place)) read =
       answer_once (line_place line) (sealed_bytes read.1.sealed) history history' engine engine' (Some (Tampered place)) read.1.answered
-      (ap (λ (e : TagEngineView T). e.made) read.1.unchanged) (ap (λ (e : TagEngineView T). e.room) read.1.unchanged) inside (λ none. cc)
+      (ap (λ (e : TagEngineView T). e.made) read.1.unchanged) (ap (λ (e : TagEngineView T). e.room) read.1.unchanged) (λ none. cc)
 
   -- No other place is touched
 
@@ -159,16 +165,6 @@ module _ {T : Type 0} (tag_of : Message → List ℕ) (line : ℕ) (counter : Co
       let sealed_is : sealed ≡ passed.sealed = cc in
       (cc, cc, passed.given ∙ ap (λ (s : Sealed). s.cipher) (sym sealed_is))
 
-  -- Where there was no memory
-
-  refused_accounted : (used : List (ℕ × Counter)) → IsCheckedRead tag_of line counter history history' engine engine' (Err NoMemory) →
-      IsAccounted tag_of used engine.made history None engine.evidence →
-      IsAccounted tag_of used engine'.made history' (Some NoMemory) engine'.evidence
-  refused_accounted used read was =
-      subst (λ (t : BusHistory). IsAccounted tag_of used engine'.made t (Some NoMemory) engine'.evidence) (sym read.0)
-      (subst (λ (e : TagEngineView T). IsAccounted tag_of used e.made history (Some NoMemory) e.evidence) (sym read.1)
-      (ended_accounted tag_of used engine.made history NoMemory engine.evidence (λ place is. cc) was))
-
   -- With evidence from before, under any counter
 
   after_evidence : (used : List (ℕ × Counter)) (first : Evidence) → engine.evidence ≡ Some first → (result : Result (List ℕ) MemStop) →
@@ -179,7 +175,7 @@ module _ {T : Type 0} (tag_of : Message → List ℕ) (line : ℕ) (counter : Co
       answer_accounted (line_place line) (sealed_bytes passed.sealed) history history' engine engine' tag_of used None first passed.answered
       (ap (λ (e : TagEngineView T). e.made) passed.checked) before (moves.evidence first before) was
   after_evidence used first before (Err (Spent page)) read was = absurd read
-  after_evidence used first before (Err NoMemory) read was = refused_accounted used read was
+  after_evidence used first before (Err NoMemory) read was = nothing_accounted tag_of used history history' engine engine' read.0 read.1 was
   after_evidence used first before (Err (Tampered place)) read was =
       answer_accounted (line_place line) (sealed_bytes read.1.sealed) history history' engine engine' tag_of used (Some (Tampered place)) first read.1.answered
       (ap (λ (e : TagEngineView T). e.made) read.1.unchanged) before (ap (λ (e : TagEngineView T). e.evidence) read.1.unchanged ∙ before) was
@@ -337,7 +333,7 @@ module _ {T : Type 0} (tag_of : Message → List ℕ) (line : ℕ) (counter : Co
           genuine = passed.genuine;
         }))
     read_accounted (Err (Spent page)) read was = absurd read
-    read_accounted (Err NoMemory) read was = refused_accounted used read was
+    read_accounted (Err NoMemory) read was = nothing_accounted tag_of used history history' engine engine' read.0 read.1 was
     read_accounted (Err (Tampered place)) read was =
         subst (λ (p : Place). IsAccounted tag_of used engine'.made history' (Some (Tampered p)) engine'.evidence) (sym read.0)
         (subst (λ (t : BusHistory). IsAccounted tag_of used engine'.made t (Some (Tampered (line_place line))) engine'.evidence) (sym read.1.answered)

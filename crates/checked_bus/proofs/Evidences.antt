@@ -37,10 +37,6 @@ pub some_holds : {A : Type 0} (o : Option A) (x : A) (P : A → Type 0) → o �
 some_holds None x P is holds = absurd (cc)
 some_holds (Some y) x P is holds = let same : y ≡ x = cc in subst P same holds
 
-pub or_none : {A : Type 0} (first second : Option A) → option_or first second ≡ None → second ≡ None
-or_none None second none = none
-or_none (Some x) second none = absurd (cc)
-
 pub first_stays : (before : Option Evidence) (shown : Option Evidence) (evidence : Evidence) → before ≡ Some evidence → option_or before shown ≡ Some evidence
 first_stays None shown evidence is = absurd (cc)
 first_stays (Some first) shown evidence is = is

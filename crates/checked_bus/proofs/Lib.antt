@@ -2,9 +2,7 @@ pub mod LineMessages
 pub mod FalseAnswers
 pub mod Evidences
 pub mod Makes
-pub mod Counting
 pub mod Steps
-pub mod Writes
 pub mod PlaceReads
 pub mod CheckedReads
 pub mod CheckedNodes

@@ -71,8 +71,3 @@ pub last_pair-some : (made : List Message) (line : ℕ) (counter : Counter) (cip
     last_data line made ≡ Some (counter, cipher) → last_pair line (data_pairs made) ≡ Some counter
 last_pair-some made line counter cipher e =
     last_pair-data_pairs line made ∙ ap (λ (o : Option (Counter × List ℕ)). option_map (λ found. found.0) o) e
-
--- a line that has none was never written
-pub last_pair-none : (made : List Message) (line : ℕ) → last_data line made ≡ None → last_pair line (data_pairs made) ≡ None
-last_pair-none made line e =
-    last_pair-data_pairs line made ∙ ap (λ (o : Option (Counter × List ℕ)). option_map (λ found. found.0) o) e

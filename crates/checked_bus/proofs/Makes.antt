@@ -11,9 +11,9 @@ use Rattle.sec_base.specs.declared.place.Place.{Place}
 use Rattle.sec_base.specs.declared.stop.MemStop.{MemStop}
 use Rattle.sec_base.specs.declared.stop.MemStop.TheVariants.{Tampered}
 use Rattle.sec_base.specs.Place.{IsPlace}
-use Rattle.bus_model.specs.Access.{Access, Read, Write, AreOf, CameBy, EndsWithRead, reads_of, stands_after, writes_in, came_on}
+use Rattle.bus_model.specs.Access.{Access, Read, Write, AreOf, CameBy, EndsWithRead, writes_in, came_on}
 use Rattle.bus_model.specs.BusHistory.{BusHistory}
-use Rattle.bus_model.proofs.Accesses.{all_accesses, all_lies, all_reads_of, all_written, stands_writes, writes_joined}
+use Rattle.bus_model.proofs.Accesses.{all_lies, writes_joined}
 use Rattle.tag_engine.specs.TagEngine.{TagEngineView, tags_of}
 use Rattle.checked_bus.specs.Makes.{access_of, HasAccesses, HasCount, IsShownIn, IsChecked, Makes, MakesAccesses}
 use Rattle.checked_bus.specs.Steps.{unwritten_in}
@@ -207,38 +207,6 @@ makes_under tag_of expected expected' old new engine engine' accesses stop under
   };
 }
 
-module _ {T : Type 0} (tag_of : Message → List ℕ) (expected : List (ℕ × Counter) → Type 0) (old new : BusHistory)
-    (engine engine' : TagEngineView T) (accesses : List Access) (stop : Option MemStop) (makes : Makes tag_of expected old engine new engine' accesses stop) where
-  -- Of the history
-
-  -- no more accesses than the list is long, and as many as far as a count goes
-  pub makes_accesses : RoseBy (length accesses) old.accesses new.accesses × (new.accesses ≤ old.accesses + length accesses)
-  makes_accesses =
-      subst (λ (t : BusHistory). RoseBy (length accesses) old.accesses t.accesses × (t.accesses ≤ old.accesses + length accesses))
-      (sym makes.came) (all_accesses accesses old)
-
-  -- a place was read as often as the list says
-  pub makes_reads : (place : Place) → RoseBy (reads_of place accesses) (old.reads place) (new.reads place)
-      × (new.reads place ≤ old.reads place + reads_of place accesses)
-  makes_reads place =
-      subst (λ (t : BusHistory). RoseBy (reads_of place accesses) (old.reads place) (t.reads place)
-      × (t.reads place ≤ old.reads place + reads_of place accesses)) (sym makes.came) (all_reads_of accesses old place)
-
-  pub makes_lies : RoseBy 0 old.lies new.lies
-  makes_lies = lies_rose old new accesses makes.came
-
-  -- what stands at a place is what the messages say, in order
-  pub makes_stands : (place : Place) → new.written place ≡ stands_after place (old.written place) (map (access_of tag_of) makes.has.written)
-  makes_stands place =
-      ap (λ (t : BusHistory). t.written place) makes.came ∙ all_written accesses old place
-      ∙ stands_writes place (old.written place) accesses
-      ∙ ap (λ (xs : List Access). stands_after place (old.written place) xs) makes.has.writes
-
-  -- Of the engine
-
-  pub makes_tags : (data_tag_of node_tag_of : T → List ℕ → List ℕ) → tags_of data_tag_of node_tag_of engine' ≡ tags_of data_tag_of node_tag_of engine
-  makes_tags data_tag_of node_tag_of = same_tags data_tag_of node_tag_of engine engine' makes.geometry makes.tagger
-
 -- where the tags of the second call are those of the engine between
 pub makes_then : {T : Type 0} (data_tag_of node_tag_of : T → List ℕ → List ℕ)
     (expected expected' : List (ℕ × Counter) → Type 0) (first second third : BusHistory) (engine engine' engine'' : TagEngineView T)
@@ -249,18 +217,35 @@ pub makes_then : {T : Type 0} (data_tag_of node_tag_of : T → List ℕ → List
 makes_then data_tag_of node_tag_of expected expected' first second third engine engine' engine'' before after stop leaves makes more =
     makes_on (tags_of data_tag_of node_tag_of engine) expected expected' first second third engine engine' engine'' before after stop leaves makes
     (subst (λ (tag_of : Message → List ℕ). Makes tag_of expected' second engine' third engine'' after stop)
-    (makes_tags (tags_of data_tag_of node_tag_of engine) expected first second engine engine' before None makes data_tag_of node_tag_of) more)
+    (same_tags data_tag_of node_tag_of engine engine' makes.geometry makes.tagger) more)
 
--- Calls of a bus, one after another, where its tags stay.
+-- Calls of a bus, one after another.
+module _ {B T : Type 0} (bus_moved : B → List Access → B → Type 0) (tag_of : Message → List ℕ) where
+  pub made_not : ((bus : B) → bus_moved bus [] bus) → (bus : B) (engine : TagEngineView T) (stop : Option MemStop) →
+      ((place : Place) → stop ≢ Some (Tampered place)) → MakesAccesses bus_moved tag_of bus engine bus engine stop
+  made_not unmoved bus engine stop untampered = record {
+    accesses = [];
+    moved = unmoved bus;
+    has = has_not tag_of engine stop untampered;
+  }
+
+  pub made_on : ((first second third : B) (before after : List Access) → bus_moved first before second → bus_moved second after third → bus_moved first (before ++ after) third) →
+      (first second third : B) (engine engine' engine'' : TagEngineView T) (stop : Option MemStop) →
+      engine'.geometry ≡ engine.geometry → ((evidence : Evidence) → engine'.evidence ≡ Some evidence → engine''.evidence ≡ Some evidence) →
+      MakesAccesses bus_moved tag_of first engine second engine' None → MakesAccesses bus_moved tag_of second engine' third engine'' stop →
+      MakesAccesses bus_moved tag_of first engine third engine'' stop
+  made_on moved_on first second third engine engine' engine'' stop geometry stays made more = record {
+    accesses = made.accesses ++ more.accesses;
+    moved = moved_on first second third made.accesses more.accesses made.moved more.moved;
+    has = has_on tag_of engine engine' engine'' made.accesses more.accesses stop geometry stays made.has more.has;
+  }
+
+-- where its tags stay
 module _ {B T : Type 0} (bus_moved : B → List Access → B → Type 0) (data_tag_of node_tag_of : T → List ℕ → List ℕ) where
   pub accesses_not : ((bus : B) → bus_moved bus [] bus) → (bus : B) (engine : TagEngineView T) (stop : Option MemStop) →
       ((place : Place) → stop ≢ Some (Tampered place)) →
       MakesAccesses bus_moved (tags_of data_tag_of node_tag_of engine) bus engine bus engine stop
-  accesses_not unmoved bus engine stop untampered = record {
-    accesses = [];
-    moved = unmoved bus;
-    has = has_not (tags_of data_tag_of node_tag_of engine) engine stop untampered;
-  }
+  accesses_not unmoved bus engine stop untampered = made_not bus_moved (tags_of data_tag_of node_tag_of engine) unmoved bus engine stop untampered
 
   pub accesses_on : ((first second third : B) (before after : List Access) → bus_moved first before second → bus_moved second after third → bus_moved first (before ++ after) third) →
       (first second third : B) (engine engine' engine'' : TagEngineView T) (stop : Option MemStop) →
@@ -269,13 +254,10 @@ module _ {B T : Type 0} (bus_moved : B → List Access → B → Type 0) (data_t
       MakesAccesses bus_moved (tags_of data_tag_of node_tag_of engine) first engine second engine' None →
       MakesAccesses bus_moved (tags_of data_tag_of node_tag_of engine') second engine' third engine'' stop →
       MakesAccesses bus_moved (tags_of data_tag_of node_tag_of engine) first engine third engine'' stop
-  accesses_on moved_on first second third engine engine' engine'' stop geometry tagger stays makes more = record {
-    accesses = makes.accesses ++ more.accesses;
-    moved = moved_on first second third makes.accesses more.accesses makes.moved more.moved;
-    has = has_on (tags_of data_tag_of node_tag_of engine) engine engine' engine'' makes.accesses more.accesses stop geometry stays makes.has
-        (subst (λ (tag_of : Message → List ℕ). HasAccesses tag_of engine' engine'' more.accesses stop)
-        (same_tags data_tag_of node_tag_of engine engine' geometry tagger) more.has);
-  }
+  accesses_on moved_on first second third engine engine' engine'' stop geometry tagger stays makes more =
+      made_on bus_moved (tags_of data_tag_of node_tag_of engine) moved_on first second third engine engine' engine'' stop geometry stays makes
+      (subst (λ (tag_of : Message → List ℕ). MakesAccesses bus_moved tag_of second engine' third engine'' stop)
+      (same_tags data_tag_of node_tag_of engine engine' geometry tagger) more)
 
 -- a call that stops so tells no other tampering and no less want of memory
 pub accesses_stopped : {B T : Type 0} (bus_moved : B → List Access → B → Type 0) (tag_of : Message → List ℕ) (bus bus' : B) (engine engine' : TagEngineView T)

@@ -16,13 +16,11 @@ use Rattle.bus_model.specs.Access.{Read, EndsWithRead}
 use Rattle.bus_model.specs.BusHistory.{BusHistory, after_read}
 use Rattle.bus_model.proofs.Steps.{true_or_false, read_geometry, read_written, read_reads, read_accesses, read_rose}
 use Rattle.tag_engine.specs.TagEngine.{TagEngineView}
-use Rattle.checked_bus.specs.Accesses.{AreCounted}
 use Rattle.checked_bus.specs.Makes.{HasAccesses, IsChecked, IsShownIn, Makes}
 use Rattle.checked_bus.specs.Steps.{IsAccounted, Moves, ReadsOnce, SameLines, SamePlace}
 use Rattle.checked_bus.proofs.Makes.{has_not}
 use Rattle.checked_bus.proofs.FalseAnswers.{first_lie_stays}
-use Rattle.checked_bus.proofs.Counting.{read_counted}
-use Rattle.checked_bus.proofs.Steps.{moves_not, counted_not, same_last, same_lines_not, same_place_not}
+use Rattle.checked_bus.proofs.Steps.{moves_not, same_last, same_lines_not, same_place_not}
 
 -- Counts that an answer leaves or raises
 
@@ -68,20 +66,15 @@ module _ {T : Type 0} (place : Place) (bytes : List ℕ) (history history' : Bus
 
   -- it is one read
   pub answer_once : (stop : Option MemStop) → history' ≡ after_read place bytes history → engine'.made ≡ engine.made →
-      engine'.room ≡ engine.room → IsPlace history.geometry place → stop ≢ Some NoMemory → ReadsOnce place history engine history' engine' stop
-  answer_once stop answer made room inside remembered =
-      let accesses : history'.accesses ≡ more_by 1 history.accesses = ap (λ (t : BusHistory). t.accesses) answer ∙ read_accesses place bytes history in
-      record {
-        made = made;
-        room = room;
-        written = ap (λ (t : BusHistory). t.written) answer ∙ read_written place bytes history;
-        once = inl accesses;
-        counted = read_counted history history' place inside
-            (ap (λ (t : BusHistory). t.geometry) answer ∙ read_geometry place bytes history)
-            (ap (λ (t : BusHistory). t.reads) answer ∙ read_reads place bytes history) accesses;
-        rose = λ _. subst (λ (t : BusHistory). Rose (history.reads place) (t.reads place)) (sym answer) (read_rose place bytes history);
-        refused = λ none. absurd (remembered none);
-      }
+      engine'.room ≡ engine.room → stop ≢ Some NoMemory → ReadsOnce place history engine history' engine' stop
+  answer_once stop answer made room remembered = record {
+    made = made;
+    room = room;
+    written = ap (λ (t : BusHistory). t.written) answer ∙ read_written place bytes history;
+    once = inl (ap (λ (t : BusHistory). t.accesses) answer ∙ read_accesses place bytes history);
+    rose = λ _. subst (λ (t : BusHistory). Rose (history.reads place) (t.reads place)) (sym answer) (read_rose place bytes history);
+    refused = λ none. absurd (remembered none);
+  }
 
   -- no other place is touched
   pub answer_others : (other : Place) → history' ≡ after_read place bytes history → engine'.made ≡ engine.made → other ≢ place →
@@ -141,7 +134,6 @@ nothing_once {T} place history history' engine engine' same unchanged = record {
   room = ap (λ (e : TagEngineView T). e.room) unchanged;
   written = ap (λ (t : BusHistory). t.written) same;
   once = inr refl;
-  counted = subst (λ (t : BusHistory). AreCounted history t 0) (sym same) (counted_not history);
   rose = λ remembered. absurd (remembered refl);
   refused = λ none. (same, unchanged);
 }

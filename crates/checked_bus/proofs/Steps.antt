@@ -1,9 +1,7 @@
 -- What holds of no call, and of two calls one after the other.
-use Rattle.std.proofs.Common.{◌≡◌, ℕ, ◌+◌, ◌≤◌, ◌⊎◌, inl, inr, List, [], ◌∷◌, ◌++◌, refl, ap, sym, ◌∙◌, subst, arith, append_assoc}
+use Rattle.std.proofs.Common.{◌≡◌, ℕ, List, [], ◌∷◌, ◌++◌, refl, ap, sym, ◌∙◌, subst, arith, append_assoc}
 use Rattle.std.proofs.lemmas.List.{append-nil}
-use Rattle.sec_base.specs.Count.{top, RoseBy}
 use Rattle.sec_base.specs.LastMessage.{data_pairs}
-use Rattle.sec_base.specs.Place.{IsPlace}
 use Rattle.sec_base.specs.declared.counter.Counter.{Counter}
 use Rattle.sec_base.specs.declared.message.Message.{Message}
 use Rattle.sec_base.specs.declared.message.Message.TheVariants.{Line, Node}
@@ -11,9 +9,7 @@ use Rattle.sec_base.specs.declared.place.Place.{Place}
 use Rattle.sec_base.specs.declared.place.Place.TheVariants.{Line as line_place, Node as node_place}
 use Rattle.bus_model.specs.BusHistory.{BusHistory}
 use Rattle.tag_engine.specs.TagEngine.{TagEngineView}
-use Rattle.checked_bus.specs.Accesses.{all_reads, HasFullCount, AreCounted}
 use Rattle.checked_bus.specs.Steps.{Moves, SameLast, SamePlace, SameLines}
-use Rattle.sec_base.specs.Geometry.{GeometryView}
 
 pub moves_not : {T : Type 0} (history : BusHistory) (engine : TagEngineView T) → Moves history engine history engine
 moves_not history engine = record {
@@ -46,20 +42,8 @@ same_last_not : (place : Place) (made : List Message) → SameLast place made ma
 same_last_not (line_place line) made = refl
 same_last_not (node_place level index) made = refl
 
-same_last_on : (place : Place) (made made' made'' : List Message) → SameLast place made made' → SameLast place made' made'' → SameLast place made made''
-same_last_on (line_place line) made made' made'' same more = more ∙ same
-same_last_on (node_place level index) made made' made'' same more = more ∙ same
-
 pub same_place_not : (place : Place) (history : BusHistory) (made : List Message) → SamePlace place history made history made
 same_place_not place history made = record { written = refl; reads = refl; last = same_last_not place made }
-
-pub same_place_on : (place : Place) (first second third : BusHistory) (made made' made'' : List Message) →
-    SamePlace place first made second made' → SamePlace place second made' third made'' → SamePlace place first made third made''
-same_place_on place first second third made made' made'' same more = record {
-  written = more.written ∙ same.written;
-  reads = more.reads ∙ same.reads;
-  last = same_last_on place made made' made'' same.last more.last;
-}
 
 -- where the messages are the same
 pub same_last : (place : Place) (made made' : List Message) → made' ≡ made → SameLast place made made'
@@ -97,40 +81,3 @@ pub same_pairs : (old new : BusHistory) (made made' : List Message) → SameLine
 same_pairs old new made made' same =
     ap data_pairs same.made_more ∙ data_pairs-append made same.more
     ∙ ap (λ (pairs : List (ℕ × Counter)). data_pairs made ++ pairs) same.no_lines ∙ append-nil (data_pairs made)
-
-pub counted_not : (history : BusHistory) → AreCounted history history 0
-counted_not history = record { most = inl (omega arith); least = inl (omega arith) }
-
--- a count that stands at its end stays there
-still_full : (old new : BusHistory) → new.geometry ≡ old.geometry → ((place : Place) → RoseBy 0 (old.reads place) (new.reads place)) →
-    HasFullCount old → HasFullCount new
-still_full old new geometry reads was = record {
-  place = was.place;
-  inside = subst (λ (n : GeometryView). IsPlace n was.place) (sym geometry) was.inside;
-  full = omega (arith, was.full, reads was.place);
-}
-
-most_on : (first second third : BusHistory) (writes more_writes : ℕ) → (HasFullCount second → HasFullCount third) →
-    (second.accesses + all_reads first ≤ first.accesses + all_reads second + writes) ⊎ HasFullCount second →
-    (third.accesses + all_reads second ≤ second.accesses + all_reads third + more_writes) ⊎ HasFullCount third →
-    (third.accesses + all_reads first ≤ first.accesses + all_reads third + (writes + more_writes)) ⊎ HasFullCount third
-most_on first second third writes more_writes still (inr full) more = inr (still full)
-most_on first second third writes more_writes still (inl most) (inr full) = inr full
-most_on first second third writes more_writes still (inl most) (inl more) = inl (omega (arith, most, more))
-
-least_on : (first second third : BusHistory) (writes more_writes : ℕ) → (top ≤ second.accesses → top ≤ third.accesses) →
-    (first.accesses + all_reads second + writes ≤ second.accesses + all_reads first) ⊎ (top ≤ second.accesses) →
-    (second.accesses + all_reads third + more_writes ≤ third.accesses + all_reads second) ⊎ (top ≤ third.accesses) →
-    (first.accesses + all_reads third + (writes + more_writes) ≤ third.accesses + all_reads first) ⊎ (top ≤ third.accesses)
-least_on first second third writes more_writes still (inr full) more = inr (still full)
-least_on first second third writes more_writes still (inl least) (inr full) = inr full
-least_on first second third writes more_writes still (inl least) (inl more) = inl (omega (arith, least, more))
-
--- with what the second call raised, as `Moves` has it
-pub counted_on : (first second third : BusHistory) (writes more_writes : ℕ) → third.geometry ≡ second.geometry →
-    ((place : Place) → RoseBy 0 (second.reads place) (third.reads place)) → RoseBy 0 second.accesses third.accesses →
-    AreCounted first second writes → AreCounted second third more_writes → AreCounted first third (writes + more_writes)
-counted_on first second third writes more_writes geometry reads accesses counted more = record {
-  most = most_on first second third writes more_writes (still_full second third geometry reads) counted.most more.most;
-  least = least_on first second third writes more_writes (λ full. omega (arith, full, accesses)) counted.least more.least;
-}

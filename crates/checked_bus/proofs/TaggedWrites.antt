@@ -24,10 +24,8 @@ use Rattle.tag_engine.proofs.Forgeries.{still_genuine}
 use Rattle.tag_engine.proofs.LastPlaces.{node_part-other}
 use Rattle.checked_bus.specs.Makes.{access_of, if_done, IsChecked, IsShownIn, WritesMessage}
 use Rattle.checked_bus.specs.Steps.{IsAccounted, Moves, SameLast, SameLines, SamePlace, WritesOnce}
-use Rattle.checked_bus.proofs.LineMessages.{last_data-other}
 use Rattle.checked_bus.proofs.FalseAnswers.{made_more}
 use Rattle.checked_bus.proofs.Evidences.{some_holds}
-use Rattle.checked_bus.proofs.Counting.{write_counted}
 use Rattle.checked_bus.proofs.CheckedReads.{none_lied, still_honest}
 
 -- a write that was refused or not
@@ -47,11 +45,6 @@ pub none_done : {A E : Type 0} (result : Result A E) (access : Access) → IsErr
 none_done (Ok value) access wrong = let no : false ≡ true = wrong in absurd (cc)
 none_done (Err error) access refused = refl
 
--- what follows where it was done
-pub where_done : {A E P Q : Type 0} (result : Result A E) → (P → Q) → OnOk result P → OnOk result Q
-where_done (Ok value) follows done = follows done
-where_done (Err error) follows done = tt
-
 pub wrote_once : (place : Place) (bytes : List ℕ) (history history' : BusHistory) → history' ≡ after_write place bytes history →
     WritesOnce place bytes history history'
 unfolding after_write
@@ -61,8 +54,6 @@ wrote_once place bytes history history' wrote = record {
   lies = ap (λ (t : BusHistory). t.lies) wrote;
   lie = ap (λ (t : BusHistory). t.lie) wrote;
   once = ap (λ (t : BusHistory). t.accesses) wrote;
-  counted = write_counted history history' (ap (λ (t : BusHistory). t.geometry) wrote) (ap (λ (t : BusHistory). t.reads) wrote)
-      (ap (λ (t : BusHistory). t.accesses) wrote);
 }
 
 -- what a write leaves as it was, whether it was refused or not
@@ -94,19 +85,29 @@ wrote_or_not place bytes history history' (Ok done) wrote = record {
   others = λ other apart. ap (λ (t : BusHistory). t.written other) wrote ∙ at_place-there place other bytes history.written apart;
 }
 
--- a message of a line is the last of no other place, and a message of a node of no other one
-pub line_last : (made : List Message) (line : ℕ) (counter : Counter) (cipher : List ℕ) (other : Place) → other ≢ line_place line →
-    SameLast other made (made ++ Line line counter cipher ∷ [])
-line_last made line counter cipher (line_place other) apart =
-    last_data-other made line other counter cipher (λ (same : other ≡ line). apart (ap (λ (l : ℕ). line_place l) same))
-line_last made line counter cipher (node_place level index) apart = last_of_other (node_part level index) made (Line line counter cipher) refl
-
+-- a message of a node is the last of no other place
 pub node_last : (made : List Message) (level index : ℕ) (block : List ℕ) (other : Place) → other ≢ node_place level index →
     SameLast other made (made ++ Node level index block ∷ [])
 node_last made level index block (line_place line) apart = last_of_other (data_part line) made (Node level index block) refl
 node_last made level index block (node_place at_level at) apart =
     last_of_other (node_part at_level at) made (Node level index block)
     (node_part-other at_level at level index block (λ (same : level ≡ at_level) (both : index ≡ at). apart (cc (same, both))))
+
+-- where no answer is false
+message_accounted : {T : Type 0} (tag_of : Message → List ℕ) (message : Message) (history history' : BusHistory)
+    (engine engine' : TagEngineView T) → engine' ≡ after_make message engine → (used more : List (ℕ × Counter)) (stop : Option MemStop) →
+    ((place : Place) → stop ≢ Some (Tampered place)) → history'.lies ≡ history.lies → history'.lie ≡ history.lie →
+    IsAccounted tag_of used engine.made history None engine.evidence → IsAccounted tag_of more engine'.made history' stop engine'.evidence
+message_accounted {T} tag_of message history history' engine engine' made used more stop untampered lies lie was =
+    subst (λ (e : TagEngineView T). IsAccounted tag_of more e.made history' stop e.evidence) (sym made) (record {
+      account = record {
+        answers = λ quiet. still_honest tag_of more (engine.made ++ message ∷ []) history' stop
+            (lies ∙ none_lied tag_of used engine.made history (was.account.answers quiet)) untampered;
+        shown = λ evidence is. made_more tag_of history history' engine.made (message ∷ []) evidence lies lie
+            (some_holds engine.evidence evidence (IsEvidence tag_of engine.made) is was.genuine) (was.account.shown evidence is);
+      };
+      genuine = still_genuine tag_of engine.made (message ∷ []) engine.evidence was.genuine;
+    })
 
 module _ {T : Type 0} (place : Place) (message : Message) (history history' : BusHistory)
     (engine engine' : TagEngineView T) (made : engine' ≡ after_make message engine) (written : Written place history history') where
@@ -143,15 +144,7 @@ module _ {T : Type 0} (place : Place) (message : Message) (history history' : Bu
   pub write_accounted : (tag_of : Message → List ℕ) (used more : List (ℕ × Counter)) → IsAccounted tag_of used engine.made history None engine.evidence →
       IsAccounted tag_of more engine'.made history' None engine'.evidence
   write_accounted tag_of used more was =
-      subst (λ (e : TagEngineView T). IsAccounted tag_of more e.made history' None e.evidence) (sym made) (record {
-        account = record {
-          answers = λ quiet. still_honest tag_of more (engine.made ++ message ∷ []) history' None
-              (written.lies ∙ none_lied tag_of used engine.made history (was.account.answers quiet)) (λ place taken. cc);
-          shown = λ evidence is. made_more tag_of history history' engine.made (message ∷ []) evidence written.lies written.lie
-              (some_holds engine.evidence evidence (IsEvidence tag_of engine.made) is was.genuine) (was.account.shown evidence is);
-        };
-        genuine = still_genuine tag_of engine.made (message ∷ []) engine.evidence was.genuine;
-      })
+      message_accounted tag_of message history history' engine engine' made used more None (λ taken is. cc) written.lies written.lie was
 
 -- a node's message is none of a line
 pub no_line_made : (level index : ℕ) (block : List ℕ) → data_pairs (Node level index block ∷ []) ≡ []
@@ -177,16 +170,7 @@ module _ {T : Type 0} (tag_of : Message → List ℕ) (message : Message) (histo
       history'.lies ≡ history.lies → history'.lie ≡ history.lie →
       IsChecked tag_of (λ used. Unit {0}) history engine history' engine' stop
   write_checked stop untampered lies lie = record {
-    honest = λ used expects was.
-        subst (λ (e : TagEngineView T). IsAccounted tag_of used e.made history' stop e.evidence) (sym made) (record {
-          account = record {
-            answers = λ quiet. still_honest tag_of used (engine.made ++ message ∷ []) history' stop
-                (lies ∙ none_lied tag_of used engine.made history (was.account.answers quiet)) untampered;
-            shown = λ evidence is. made_more tag_of history history' engine.made (message ∷ []) evidence lies lie
-                (some_holds engine.evidence evidence (IsEvidence tag_of engine.made) is was.genuine) (was.account.shown evidence is);
-          };
-          genuine = still_genuine tag_of engine.made (message ∷ []) engine.evidence was.genuine;
-        });
+    honest = λ used expects was. message_accounted tag_of message history history' engine engine' made used used stop untampered lies lie was;
     found = λ used expects quiet. inl (ap (λ (e : TagEngineView T). e.evidence) made ∙ quiet, untampered);
     first = λ evidence is. ap (λ (e : TagEngineView T). e.evidence) made ∙ is;
   }

@@ -1,5 +1,4 @@
 pub mod SealedLine
 pub mod Checks
-pub mod Accesses
 pub mod Steps
 pub mod Makes

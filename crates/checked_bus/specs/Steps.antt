@@ -16,7 +16,6 @@ use Rattle.sec_base.specs.Place.{at_place}
 use Rattle.bus_model.specs.BusHistory.{BusHistory}
 use Rattle.bus_model.specs.FirstLie.{AccountsForLies}
 use Rattle.tag_engine.specs.TagEngine.{TagEngineView}
-use Rattle.checked_bus.specs.Accesses.{AreCounted}
 use Rattle.checked_bus.specs.SealedLine.{sealed_line}
 
 -- What each call leaves as it was, adds to, or raises.
@@ -80,7 +79,6 @@ pub record ReadsOnce {T : Type 0} (place : Place) (old : BusHistory) (engine : T
   pub room : engine'.room ≡ engine.room
   pub written : new.written ≡ old.written
   pub once : new.accesses ≡ more_by 1 old.accesses ⊎ (stop ≡ Some NoMemory)
-  pub counted : AreCounted old new 0
   pub rose : stop ≢ Some NoMemory → Rose (old.reads place) (new.reads place)
   pub refused : stop ≡ Some NoMemory → (new ≡ old) × (engine' ≡ engine)
 
@@ -91,7 +89,6 @@ pub record WritesOnce (place : Place) (bytes : List ℕ) (old new : BusHistory) 
   pub lies : new.lies ≡ old.lies
   pub lie : new.lie ≡ old.lie
   pub once : new.accesses ≡ more_by 1 old.accesses
-  pub counted : AreCounted old new 1
 
 -- how many messages may be made that were not written: the last one, where there was no memory to write it
 abbrev pub unwritten_in : Option MemStop → ℕ

@@ -17,7 +17,7 @@ ghost use Rattle.tag_engine.specs.TagEngine.{after_make, tags_of};
 ghost use Rattle.checked_bus.specs.Checks.{IsCheckedRead};
 ghost use Rattle.checked_bus.specs.Makes.{ReadsPlace, WritesMessage, access_of, if_done};
 ghost use Rattle.checked_bus.specs.SealedLine.{sealed_line};
-ghost use Rattle.checked_bus.specs.Steps.{IsAccounted, IsCurrent, Moves, ReadsOnce, SamePlace, WritesOnce};
+ghost use Rattle.checked_bus.specs.Steps.{IsAccounted, IsCurrent, Moves, ReadsOnce, SamePlace};
 
 use bus_model::Bus;
 use sec_base::{Counter, MemStop, NoMemory, Place, Sealed, Tagger};
@@ -123,11 +123,6 @@ pub fn write_line<B: Bus, T: Tagger>(
         (B.history bus.old) tags.old (B.history bus.new) tags.new result }
 
     ensures moves { Moves (B.history bus.old) tags.old (B.history bus.new) tags.new }
-    ensures once { OnOk result (WritesOnce (line_place line)
-        (sealed_line (tags_of T.data_tag_of T.node_tag_of tags.old) line counter cipher.now)
-        (B.history bus.old) (B.history bus.new)) }
-    ensures others { (other : Place) → other ≢ line_place line →
-        SamePlace other (B.history bus.old) tags.old.made (B.history bus.new) tags.new.made }
 
     // No answer was false.
     ensures honest { (used more : List (ℕ × Counter)) →

@@ -1,13 +1,10 @@
 use Rattle.std.proofs.Common.{◌≡◌, Bool, false, [], Ok, Err, ap, refl, rules, sym, ◌∙◌}
 use Rattle.sec_base.specs.declared.place.Place.TheVariants.{Line as line_place}
 use Rattle.sec_base.specs.declared.stop.MemStop.TheVariants.{Tampered}
-use Rattle.sec_base.specs.Message.{data_bytes}
-use Rattle.tag_engine.specs.Tag.{engine_tag}
 use Rattle.tag_engine.specs.TagEngine.{after_check_data, tags_of}
 use Rattle.tag_engine.proofs.Upkeep.{failed_check}
-use Rattle.checked_bus.proofs.CheckedReads.{failed_makes, passed_makes, refused_makes, read_moves, read_once, read_others, read_accepted, tampered_lied, shown_lied, read_honest}
+use Rattle.checked_bus.proofs.CheckedReads.{failed_makes, line_tags_long, passed_makes, refused_makes, read_moves, read_once, read_others, read_accepted, tampered_lied, shown_lied, read_honest}
 use Rattle.checked_bus.proofs.Evidences.{none_or}
-use Rattle.tag_engine.proofs.Marks.{marked_long}
 use Rattle.checked_bus.proofs.line.read_line.Goals as goal
 
 -- Refused, out of memory
@@ -16,12 +13,10 @@ pub returns-in_err-sealed-clause-read : goal.returns-in_err-sealed-clause-read
 returns-in_err-sealed-clause-read g c = search rules
 
 pub returns-in_err-sealed-clause-honest : goal.returns-in_err-sealed-clause-honest
-unfolding engine_tag
 returns-in_err-sealed-clause-honest g c = λ used current was.
     read_honest (tags_of g.T.Tagger.data_tag_of g.T.Tagger.node_tag_of c.args.tags.now) c.args.line c.args.counter
     (g.B.Bus.history c.args.bus.now) (g.B.Bus.history c.read_data.new.self) c.args.tags.now c.args.tags.now
-    (λ cipher. marked_long c.args.tags.now.geometry.layout (g.T.Tagger.data_tag_of c.args.tags.now.tagger (data_bytes c.args.line c.args.counter cipher))
-    (g.met.T.Tagger.data_tag_long c.args.tags.now.tagger (data_bytes c.args.line c.args.counter cipher)))
+    (line_tags_long g.T.Tagger.data_tag_of g.T.Tagger.node_tag_of c.args.tags.now c.args.line c.args.counter g.met.T.Tagger.data_tag_long)
     used current c.from_residual.result (returns-in_err-sealed-clause-read g c) was
 
 pub returns-in_err-sealed-clause-makes : goal.returns-in_err-sealed-clause-makes
@@ -52,14 +47,13 @@ returns-then-not-check_data-clause-read g c =
     )
 
 pub returns-then-not-check_data-clause-makes : goal.returns-then-not-check_data-clause-makes
-unfolding engine_tag returns-then-not-check_data-clause-read
+unfolding returns-then-not-check_data-clause-read
 returns-then-not-check_data-clause-makes g c = (
   _,
   c.in_ok-sealed.ensures.access,
   failed_makes (tags_of g.T.Tagger.data_tag_of g.T.Tagger.node_tag_of c.args.tags.now) c.args.line c.args.counter
       (g.B.Bus.history c.args.bus.now) (g.B.Bus.history c.read_data.new.self) c.args.tags.now c.check_data.new.self c.requires.line
-      (λ cipher. marked_long c.args.tags.now.geometry.layout (g.T.Tagger.data_tag_of c.args.tags.now.tagger (data_bytes c.args.line c.args.counter cipher))
-      (g.met.T.Tagger.data_tag_long c.args.tags.now.tagger (data_bytes c.args.line c.args.counter cipher)))
+      (line_tags_long g.T.Tagger.data_tag_of g.T.Tagger.node_tag_of c.args.tags.now c.args.line c.args.counter g.met.T.Tagger.data_tag_long)
       (returns-then-not-check_data-clause-read g c).1,
 )
 
@@ -73,7 +67,7 @@ pub returns-then-not-check_data-clause-once : goal.returns-then-not-check_data-c
 returns-then-not-check_data-clause-once g c =
     read_once (tags_of g.T.Tagger.data_tag_of g.T.Tagger.node_tag_of c.args.tags.now) c.args.line c.args.counter
     (g.B.Bus.history c.args.bus.now) (g.B.Bus.history c.read_data.new.self) c.args.tags.now c.check_data.new.self
-    (Err (Tampered (line_place c.args.line))) c.requires.place (returns-then-not-check_data-clause-read g c)
+    (Err (Tampered (line_place c.args.line))) (returns-then-not-check_data-clause-read g c)
 
 pub returns-then-not-check_data-clause-others : goal.returns-then-not-check_data-clause-others
 returns-then-not-check_data-clause-others g c = λ other differs.
@@ -82,34 +76,28 @@ returns-then-not-check_data-clause-others g c = λ other differs.
     (Err (Tampered (line_place c.args.line))) other differs (returns-then-not-check_data-clause-read g c)
 
 pub returns-then-not-check_data-clause-honest : goal.returns-then-not-check_data-clause-honest
-unfolding engine_tag
 returns-then-not-check_data-clause-honest g c = λ used current was.
     read_honest (tags_of g.T.Tagger.data_tag_of g.T.Tagger.node_tag_of c.args.tags.now) c.args.line c.args.counter
     (g.B.Bus.history c.args.bus.now) (g.B.Bus.history c.read_data.new.self) c.args.tags.now c.check_data.new.self
-    (λ cipher. marked_long c.args.tags.now.geometry.layout (g.T.Tagger.data_tag_of c.args.tags.now.tagger (data_bytes c.args.line c.args.counter cipher))
-    (g.met.T.Tagger.data_tag_long c.args.tags.now.tagger (data_bytes c.args.line c.args.counter cipher)))
+    (line_tags_long g.T.Tagger.data_tag_of g.T.Tagger.node_tag_of c.args.tags.now c.args.line c.args.counter g.met.T.Tagger.data_tag_long)
     used current (Err (Tampered (line_place c.args.line))) (returns-then-not-check_data-clause-read g c) was
 
 pub returns-then-not-check_data-clause-tampered : goal.returns-then-not-check_data-clause-tampered
-unfolding engine_tag
 returns-then-not-check_data-clause-tampered g c = λ place is. (
   cc,
   λ used current.
       tampered_lied (tags_of g.T.Tagger.data_tag_of g.T.Tagger.node_tag_of c.args.tags.now) c.args.line c.args.counter
       (g.B.Bus.history c.args.bus.now) (g.B.Bus.history c.read_data.new.self) c.args.tags.now c.check_data.new.self
-      (λ cipher. marked_long c.args.tags.now.geometry.layout (g.T.Tagger.data_tag_of c.args.tags.now.tagger (data_bytes c.args.line c.args.counter cipher))
-      (g.met.T.Tagger.data_tag_long c.args.tags.now.tagger (data_bytes c.args.line c.args.counter cipher)))
+      (line_tags_long g.T.Tagger.data_tag_of g.T.Tagger.node_tag_of c.args.tags.now c.args.line c.args.counter g.met.T.Tagger.data_tag_long)
       used current (returns-then-not-check_data-clause-read g c).1,
 )
 
 pub returns-then-not-check_data-clause-shown : goal.returns-then-not-check_data-clause-shown
-unfolding engine_tag
 returns-then-not-check_data-clause-shown g c = λ used current quiet.
     none_or c.check_data.new.self.evidence
     (shown_lied (tags_of g.T.Tagger.data_tag_of g.T.Tagger.node_tag_of c.args.tags.now) c.args.line c.args.counter
     (g.B.Bus.history c.args.bus.now) (g.B.Bus.history c.read_data.new.self) c.args.tags.now c.check_data.new.self
-    (λ cipher. marked_long c.args.tags.now.geometry.layout (g.T.Tagger.data_tag_of c.args.tags.now.tagger (data_bytes c.args.line c.args.counter cipher))
-    (g.met.T.Tagger.data_tag_long c.args.tags.now.tagger (data_bytes c.args.line c.args.counter cipher)))
+    (line_tags_long g.T.Tagger.data_tag_of g.T.Tagger.node_tag_of c.args.tags.now c.args.line c.args.counter g.met.T.Tagger.data_tag_long)
     used current (Err (Tampered (line_place c.args.line))) (returns-then-not-check_data-clause-read g c) quiet)
 
 -- Passed
@@ -127,7 +115,7 @@ pub returns-clause-once : goal.returns-clause-once
 returns-clause-once g c =
     read_once (tags_of g.T.Tagger.data_tag_of g.T.Tagger.node_tag_of c.args.tags.now) c.args.line c.args.counter
     (g.B.Bus.history c.args.bus.now) (g.B.Bus.history c.read_data.new.self) c.args.tags.now c.check_data.new.self
-    (Ok c.in_ok-sealed.sealed.cipher) c.requires.place (returns-clause-read g c)
+    (Ok c.in_ok-sealed.sealed.cipher) (returns-clause-read g c)
 
 pub returns-clause-others : goal.returns-clause-others
 returns-clause-others g c = λ other differs.
@@ -136,12 +124,10 @@ returns-clause-others g c = λ other differs.
     (Ok c.in_ok-sealed.sealed.cipher) other differs (returns-clause-read g c)
 
 pub returns-clause-honest : goal.returns-clause-honest
-unfolding engine_tag
 returns-clause-honest g c = λ used current was.
     read_honest (tags_of g.T.Tagger.data_tag_of g.T.Tagger.node_tag_of c.args.tags.now) c.args.line c.args.counter
     (g.B.Bus.history c.args.bus.now) (g.B.Bus.history c.read_data.new.self) c.args.tags.now c.check_data.new.self
-    (λ cipher. marked_long c.args.tags.now.geometry.layout (g.T.Tagger.data_tag_of c.args.tags.now.tagger (data_bytes c.args.line c.args.counter cipher))
-    (g.met.T.Tagger.data_tag_long c.args.tags.now.tagger (data_bytes c.args.line c.args.counter cipher)))
+    (line_tags_long g.T.Tagger.data_tag_of g.T.Tagger.node_tag_of c.args.tags.now c.args.line c.args.counter g.met.T.Tagger.data_tag_long)
     used current (Ok c.in_ok-sealed.sealed.cipher) (returns-clause-read g c) was
 
 pub returns-clause-accepted : goal.returns-clause-accepted
@@ -151,23 +137,20 @@ returns-clause-accepted g c = λ at under sealed made_count quiet shown.
     c.in_ok-sealed.sealed.cipher at under sealed made_count (returns-clause-read g c) quiet shown
 
 pub returns-clause-shown : goal.returns-clause-shown
-unfolding engine_tag
 returns-clause-shown g c = λ used current quiet.
     none_or c.check_data.new.self.evidence
     (shown_lied (tags_of g.T.Tagger.data_tag_of g.T.Tagger.node_tag_of c.args.tags.now) c.args.line c.args.counter
     (g.B.Bus.history c.args.bus.now) (g.B.Bus.history c.read_data.new.self) c.args.tags.now c.check_data.new.self
-    (λ cipher. marked_long c.args.tags.now.geometry.layout (g.T.Tagger.data_tag_of c.args.tags.now.tagger (data_bytes c.args.line c.args.counter cipher))
-    (g.met.T.Tagger.data_tag_long c.args.tags.now.tagger (data_bytes c.args.line c.args.counter cipher)))
+    (line_tags_long g.T.Tagger.data_tag_of g.T.Tagger.node_tag_of c.args.tags.now c.args.line c.args.counter g.met.T.Tagger.data_tag_long)
     used current (Ok c.in_ok-sealed.sealed.cipher) (returns-clause-read g c) quiet)
 
 pub returns-clause-makes : goal.returns-clause-makes
-unfolding engine_tag returns-clause-read
+unfolding returns-clause-read
 returns-clause-makes g c = (
   _,
   c.in_ok-sealed.ensures.access,
   passed_makes (tags_of g.T.Tagger.data_tag_of g.T.Tagger.node_tag_of c.args.tags.now) c.args.line c.args.counter
       (g.B.Bus.history c.args.bus.now) (g.B.Bus.history c.read_data.new.self) c.args.tags.now c.check_data.new.self c.requires.line
-      (λ cipher. marked_long c.args.tags.now.geometry.layout (g.T.Tagger.data_tag_of c.args.tags.now.tagger (data_bytes c.args.line c.args.counter cipher))
-      (g.met.T.Tagger.data_tag_long c.args.tags.now.tagger (data_bytes c.args.line c.args.counter cipher)))
+      (line_tags_long g.T.Tagger.data_tag_of g.T.Tagger.node_tag_of c.args.tags.now c.args.line c.args.counter g.met.T.Tagger.data_tag_long)
       (returns-clause-read g c),
 )

@@ -11,7 +11,7 @@ use Rattle.bus_model.specs.BusHistory.{after_write}
 use Rattle.tag_engine.specs.TagEngine.{tags_of}
 use Rattle.checked_bus.specs.Makes.{access_of, if_done}
 use Rattle.checked_bus.specs.SealedLine.{sealed_line}
-use Rattle.checked_bus.proofs.TaggedWrites.{if_wrote, one_done, where_done, wrote_once, wrote_or_not, write_makes, line_last, write_moves, write_others, write_accounted}
+use Rattle.checked_bus.proofs.TaggedWrites.{if_wrote, one_done, wrote_or_not, write_makes, write_moves, write_accounted}
 use Rattle.checked_bus.proofs.line.write_line.Goals as goal
 
 pub returns-clause-made : goal.returns-clause-made
@@ -54,23 +54,6 @@ returns-clause-moves g c =
     (wrote_or_not (line_place c.args.line) (sealed_bytes (record { cipher = c.args.cipher.now; tag = c.in_ok-tag.tag }))
     (g.B.Bus.history c.args.bus.now) (g.B.Bus.history c.write_data.new.self)
     c.write_data.result (g.met.B.Bus.told c.args.bus.now c.write_data.new.self _ c.write_data.ensures.access))
-
-pub returns-clause-once : goal.returns-clause-once
-returns-clause-once g c =
-    where_done c.write_data.result
-    (wrote_once (line_place c.args.line)
-    (sealed_line (tags_of g.T.Tagger.data_tag_of g.T.Tagger.node_tag_of c.args.tags.now) c.args.line c.args.counter c.args.cipher.now)
-    (g.B.Bus.history c.args.bus.now) (g.B.Bus.history c.write_data.new.self))
-    (returns-clause-ok g c)
-
-pub returns-clause-others : goal.returns-clause-others
-returns-clause-others g c =
-    write_others (line_place c.args.line) (Line c.args.line c.args.counter c.args.cipher.now)
-    (g.B.Bus.history c.args.bus.now) (g.B.Bus.history c.write_data.new.self) c.args.tags.now c.make_data.new.self (returns-clause-made g c)
-    (wrote_or_not (line_place c.args.line) (sealed_bytes (record { cipher = c.args.cipher.now; tag = c.in_ok-tag.tag }))
-    (g.B.Bus.history c.args.bus.now) (g.B.Bus.history c.write_data.new.self)
-    c.write_data.result (g.met.B.Bus.told c.args.bus.now c.write_data.new.self _ c.write_data.ensures.access))
-    (line_last c.args.tags.now.made c.args.line c.args.counter c.args.cipher.now)
 
 pub returns-clause-honest : goal.returns-clause-honest
 returns-clause-honest g c =

@@ -73,7 +73,7 @@ pub returns-then-not-check_node-clause-once : goal.returns-then-not-check_node-c
 returns-then-not-check_node-clause-once g c =
     node_once (tags_of g.T.Tagger.data_tag_of g.T.Tagger.node_tag_of c.args.tags.now) c.args.level c.args.index c.args.tag.now
     (g.B.Bus.history c.args.bus.now) (g.B.Bus.history c.read_node.new.self) c.args.tags.now c.check_node.new.self
-    (Err (Tampered (node_place c.args.level c.args.index))) c.requires.place (returns-then-not-check_node-clause-read g c)
+    (Err (Tampered (node_place c.args.level c.args.index))) (returns-then-not-check_node-clause-read g c)
 
 pub returns-then-not-check_node-clause-others : goal.returns-then-not-check_node-clause-others
 returns-then-not-check_node-clause-others g c = λ other apart.
@@ -139,7 +139,7 @@ pub returns-clause-once : goal.returns-clause-once
 returns-clause-once g c =
     node_once (tags_of g.T.Tagger.data_tag_of g.T.Tagger.node_tag_of c.args.tags.now) c.args.level c.args.index c.args.tag.now
     (g.B.Bus.history c.args.bus.now) (g.B.Bus.history c.read_node.new.self) c.args.tags.now c.check_node.new.self
-    (Ok c.in_ok-block.block) c.requires.place (returns-clause-read g c)
+    (Ok c.in_ok-block.block) (returns-clause-read g c)
 
 pub returns-clause-others : goal.returns-clause-others
 returns-clause-others g c = λ other apart.
