@@ -3,7 +3,7 @@ use Rattle.std.proofs.Common.{◌≡◌, ◌≢◌, ◌⊎◌, inl, inr, ℕ, ze
 use Rattle.std.proofs.lemmas.Bool.{cases_lt}
 use Rattle.std.proofs.lemmas.Grind.{pow_more}
 use Rattle.std.proofs.lemmas.Nat.{pow-add}
-use Rattle.std.proofs.Math.Nat.{div-div-eq-div-mul, div-one, pow-zero}
+use Rattle.std.proofs.Math.Nat.{div-div-eq-div-mul, pow-zero}
 use Rattle.sec_base.specs.Count.{Rose, RoseBy}
 use Rattle.sec_base.specs.Evidence.{evidence_place}
 use Rattle.sec_base.specs.Geometry.{GeometryView, arity}
@@ -18,16 +18,14 @@ use Rattle.sec_base.proofs.LastMessages.{none_front}
 use Rattle.sec_base.proofs.Results.{was_none, some_or_none}
 use Rattle.bus_model.specs.BusHistory.{BusHistory}
 use Rattle.tag_engine.specs.TagEngine.{TagEngineView, tags_of}
-use Rattle.checked_bus.specs.Accesses.{WritesMessages}
-use Rattle.checked_bus.specs.Steps.{IsAccounted, Moves, unwritten_in}
+use Rattle.checked_bus.specs.Steps.{IsAccounted, Moves}
 use Rattle.checked_bus.proofs.CheckedReads.{ended_accounted}
 use Rattle.checked_bus.proofs.Steps.{moves_not, moves_on, same_lines_not, same_lines_on}
-use Rattle.checked_bus.proofs.Writes.{none_more, writes_not, writes_on}
 use Rattle.bonsai_tree.specs.Climb.{Climbs}
 use Rattle.bonsai_tree.specs.Node.{CachedNode}
 use Rattle.bonsai_tree.specs.NodeCache.{AreNodeCaches, level_cache}
 use Rattle.bonsai_tree.specs.Tree.{CameUnlessHeld, HoldsTree, IsNodeFrom, NodeCame, NodesAreMade, NodesHoldLast, SlotsAreTags, TreeView, WasReadUp, above, cached_node}
-use Rattle.bonsai_tree.proofs.Nodes.{same_tags, some_not_none}
+use Rattle.bonsai_tree.proofs.Nodes.{above_none, same_tags, some_not_none}
 
 -- Which nodes were read
 
@@ -44,9 +42,6 @@ pub record LowestCopy (tree : TreeView) (level index more : ℕ) : Type 0 where
   pub lower : ℕ
   pub within : lower ≤ more
   pub copied : cached_node tree (level + lower) (above tree.geometry index lower) ≢ None
-
-pub above_none : (geometry : GeometryView) (index : ℕ) → above geometry index 0 ≡ index
-above_none geometry index = ap (λ (n : ℕ). index / n) (pow-zero (arity geometry)) ∙ div-one index
 
 pub above_one : (geometry : GeometryView) (index : ℕ) → above geometry index 1 ≡ index / arity geometry
 above_one geometry index =
@@ -175,11 +170,6 @@ node_up geometry from more_from place up is = record {
   place_is = is.place_is;
 }
 
-pub unchanged_writes : {T : Type 0} (history : BusHistory) (engine : TagEngineView T) → WritesMessages history history (length (moves_not history engine).more) 0
-unchanged_writes history engine =
-    let none : length (moves_not history engine).more ≡ 0 = none_more engine.made engine.made (moves_not history engine).more refl (moves_not history engine).made in
-    subst (λ (k : ℕ). WritesMessages history history k 0) (sym none) (writes_not history)
-
 module _ {T : Type 0} (d n : T → List ℕ → List ℕ) where
   -- copies alone changed
   pub climbs_recached : (from : ℕ) (tree tree' : TreeView) (history : BusHistory) (engine : TagEngineView T) → tree'.geometry ≡ tree.geometry → tree'.root ≡ tree.root →
@@ -208,7 +198,6 @@ module _ {T : Type 0} (d n : T → List ℕ → List ℕ) where
     unspent = λ spent is. absurd (cc);
     room = omega arith;
     no_rise = omega arith;
-    writes = unchanged_writes history engine;
     made_blocks = λ was. was;
     last_blocks = λ remembered was. was;
     slots = λ was quiet tagged. tagged;
@@ -245,9 +234,6 @@ module _ {T : Type 0} (d n : T → List ℕ → List ℕ) where
     unspent = λ spent is. absurd (cc);
     room = omega arith;
     no_rise = omega arith;
-    writes =
-        let writes : WritesMessages history history (length (moves_not history engine).more) 0 = unchanged_writes history engine in
-        record { writes = writes.writes; counted = writes.counted; at_most = writes.at_most; at_least = omega (arith, writes.at_least) };
     made_blocks = λ was. was;
     last_blocks = λ remembered was. absurd (remembered refl);
     slots = λ was quiet tagged. tagged;
@@ -278,7 +264,6 @@ module _ {T : Type 0} (d n : T → List ℕ → List ℕ) where
     unspent = climbs.unspent;
     room = climbs.room;
     no_rise = climbs.no_rise;
-    writes = climbs.writes;
     made_blocks = climbs.made_blocks;
     last_blocks = climbs.last_blocks;
     slots = climbs.slots;
@@ -350,9 +335,6 @@ module _ {T : Type 0} (d n : T → List ℕ → List ℕ) where
         unspent = more.unspent;
         room = omega (arith, climbs.room, more.room, long);
         no_rise = omega (arith, climbs.no_rise, more.no_rise);
-        writes = subst (λ (k : ℕ). WritesMessages first third k (unwritten_in stop)) (sym long)
-            (writes_on first second third (length climbs.moves.more) (length more.moves.more) (unwritten_in stop)
-            more.moves.bus_geometry more.moves.reads more.moves.accesses climbs.writes more.writes);
         made_blocks = λ was.
             subst (λ (k : GeometryView). NodesAreMade k engine''.made third.written) climbs.geometry
             (more.made_blocks (subst (λ (k : GeometryView). NodesAreMade k engine'.made second.written) (sym climbs.geometry) (climbs.made_blocks was)));

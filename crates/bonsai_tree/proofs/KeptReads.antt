@@ -2,7 +2,7 @@
 use Rattle.std.proofs.Common.{◌≡◌, ◌≢◌, ◌⊎◌, inl, inr, ℕ, ◌+◌, ◌≤◌, List, Option, Some, None, Result, Ok, Err, refl, ap, sym, ◌∙◌, arith}
 use Rattle.std.specs.Prelude.{IfOk}
 use Rattle.std.specs.Result.{result_err}
-use Rattle.sec_base.specs.Count.{Rose}
+use Rattle.sec_base.specs.Count.{Rose, more_by}
 use Rattle.sec_base.specs.LastMessage.{last_node}
 use Rattle.sec_base.specs.declared.counter.Counter.{Counter}
 use Rattle.sec_base.specs.declared.evidence.Evidence.TheVariants.{Collision}
@@ -11,13 +11,15 @@ use Rattle.sec_base.specs.declared.message.Message.TheVariants.{Node}
 use Rattle.sec_base.specs.declared.place.Place.{Place}
 use Rattle.sec_base.specs.declared.place.Place.TheVariants.{Node as node_place}
 use Rattle.sec_base.specs.declared.stop.MemStop.{MemStop}
-use Rattle.sec_base.specs.declared.stop.MemStop.TheVariants.{Tampered, Spent}
-use Rattle.bus_model.specs.BusHistory.{BusHistory}
+use Rattle.sec_base.specs.declared.stop.MemStop.TheVariants.{Tampered, Spent, NoMemory}
+use Rattle.sec_base.proofs.SamePlaces.{at_place-here}
+use Rattle.bus_model.specs.BusHistory.{BusHistory, after_read}
+use Rattle.bus_model.proofs.Steps.{read_reads}
 use Rattle.tag_engine.specs.TagEngine.{TagEngineView, tags_of}
 use Rattle.tag_engine.proofs.Marks.{engine_tag_some}
 use Rattle.checked_bus.specs.Checks.{IsCheckedNode}
 use Rattle.checked_bus.specs.Steps.{IsAccounted, IsCurrentNode, Moves, ReadsOnce, SameLines, SamePlace}
-use Rattle.checked_bus.proofs.Steps.{counted_not, moves_not, same_lines_not}
+use Rattle.checked_bus.proofs.Steps.{moves_not, same_lines_not}
 use Rattle.bonsai_tree.specs.KeptRead.{IsKeptNode, ReadsKept}
 use Rattle.bonsai_tree.specs.Node.{block_or_zeros, no_block, no_tag}
 use Rattle.bonsai_tree.proofs.Nodes.{node_found, same_or_not}
@@ -38,8 +40,8 @@ reads_none d n level index tag history engine none =
       made = refl;
       room = refl;
       written = refl;
-      counted = counted_not history;
       most = omega arith;
+      one = omega arith;
       checked = inl (none, refl);
       block = λ kept quiet. sym (ap (λ (last : Option (List ℕ)). block_or_zeros last) (unmade kept));
       unasked = λ is. (refl, refl, refl);
@@ -66,6 +68,31 @@ last_by : (last : Option (List ℕ)) (result : Result (List ℕ) MemStop) → If
     IfOk result (λ block. block ≡ block_or_zeros last)
 last_by last (Ok block) is = sym (ap (λ (found : Option (List ℕ)). block_or_zeros found) is)
 last_by last (Err stop) is = tt
+
+answered_once : (level index : ℕ) (block : List ℕ) (old new : BusHistory) → new ≡ after_read (node_place level index) block old →
+    new.reads (node_place level index) ≡ more_by 1 (old.reads (node_place level index))
+answered_once level index block old new answered =
+    let place = node_place level index in
+    ap (λ (t : BusHistory). t.reads place) answered ∙ ap (λ (f : Place → ℕ). f place) (read_reads place block old)
+    ∙ at_place-here place (more_by 1 (old.reads place)) old.reads
+
+read_once : {T : Type 0} (tag_of : Message → List ℕ) (level index : ℕ) (tag : List ℕ) (old new : BusHistory) (engine engine' : TagEngineView T)
+    (result : Result (List ℕ) MemStop) → IsCheckedNode tag_of level index tag old new engine engine' result → result_err result ≢ Some NoMemory →
+    new.reads (node_place level index) ≡ more_by 1 (old.reads (node_place level index))
+read_once tag_of level index tag old new engine engine' (Ok block) passed going = answered_once level index passed.block old new passed.answered
+read_once tag_of level index tag old new engine engine' (Err (Tampered place)) failed going = answered_once level index failed.1.block old new failed.1.answered
+read_once tag_of level index tag old new engine engine' (Err (Spent page)) refused going = absurd refused
+read_once tag_of level index tag old new engine engine' (Err NoMemory) refused going = absurd (going refl)
+
+read_at_most : {T : Type 0} (tag_of : Message → List ℕ) (level index : ℕ) (tag : List ℕ) (old new : BusHistory) (engine engine' : TagEngineView T)
+    (result : Result (List ℕ) MemStop) → IsCheckedNode tag_of level index tag old new engine engine' result →
+    new.reads (node_place level index) ≤ old.reads (node_place level index) + 1
+read_at_most tag_of level index tag old new engine engine' (Ok block) passed = omega (arith, answered_once level index passed.block old new passed.answered)
+read_at_most tag_of level index tag old new engine engine' (Err (Tampered place)) failed =
+    omega (arith, answered_once level index failed.1.block old new failed.1.answered)
+read_at_most tag_of level index tag old new engine engine' (Err (Spent page)) refused = absurd refused
+read_at_most tag_of level index tag old new engine engine' (Err NoMemory) refused =
+    omega (arith, ap (λ (t : BusHistory). t.reads (node_place level index)) refused.0)
 
 -- one that was made is read and checked
 module _ {T : Type 0} (d n : T → List ℕ → List ℕ) (level index : ℕ) (tag : List ℕ) (old new : BusHistory) (engine engine' : TagEngineView T)
@@ -121,12 +148,12 @@ module _ {T : Type 0} (d n : T → List ℕ → List ℕ) (level index : ℕ) (t
     made = once.made;
     room = once.room;
     written = once.written;
-    counted = once.counted;
     most = one_access;
+    one = read_at_most (tags_of d n engine) level index tag old new engine engine' result read;
     checked = checked_by (tags_of d n engine) level index tag old new engine engine' result read;
     block = λ kept quiet. last_by (last_node level index engine.made) result (known (is_current kept) quiet);
     unasked = λ none. absurd (some none);
-    asked = λ is going. once.rose going;
+    asked = λ is going. read_once (tags_of d n engine) level index tag old new engine engine' result read going;
     alone = unread_beside;
     came = λ kept going. inr (once.rose going);
     unread = others_unread;

@@ -1,5 +1,7 @@
 pub mod Accesses
 pub mod Copies
+pub mod NodeOrders
+pub mod NodesJoined
 pub mod SlotTags
 pub mod LevelBlocks
 pub mod Nodes
@@ -8,11 +10,13 @@ pub mod NewTrees
 pub mod Puts
 pub mod MadeSlots
 pub mod Views
+pub mod NodesHad
 pub mod Climbs
 pub mod TreeMakes
 pub mod NodeWrites
 pub mod NodeCalls
 pub mod WrittenBack
 pub mod OutFor
+pub mod TreeSteps
 pub mod PathCalls
 pub mod TreeCalls

@@ -19,34 +19,39 @@ use Rattle.bus_model.specs.BusHistory.{BusHistory}
 use Rattle.tag_engine.specs.TagEngine.{TagEngineView, tags_of, with_room}
 use Rattle.checked_bus.specs.Steps.{IsAccounted, WritesOnce, unwritten_in}
 use Rattle.checked_bus.proofs.CheckedReads.{ended_accounted}
-use Rattle.checked_bus.proofs.Writes.{none_more}
 use Rattle.bonsai_tree.specs.KeptRead.{IsKeptNode, ReadsKept}
 use Rattle.bonsai_tree.specs.Climb.{Climbs}
 use Rattle.bonsai_tree.specs.Node.{CachedNode, block_or_zeros, current_of, level_blocks, tag_in_slot, tag_of_last}
-use Rattle.bonsai_tree.specs.NodeCache.{AreNodeCaches, OtherLevels, level_cache}
+use Rattle.bonsai_tree.specs.NodeCache.{AreNodeCaches, NodeCacheView, OtherLevels, level_cache, node_way}
 use Rattle.bonsai_tree.specs.Tree.{HoldsTree, IsNodeFrom, IsTree, NodeCame, NodesAreMade, NodesHoldLast, SlotsAreTags, TreeView, WasReadUp, above, cached_node, current_block, kept_tag}
 use Rattle.bonsai_tree.specs.Writing.{WritesNodes}
-use Rattle.bonsai_tree.proofs.Climbs.{above_none, above_one, climbs_recached, read_up_held}
+use Rattle.bonsai_tree.proofs.Climbs.{above_one, climbs_recached, read_up_held}
 use Rattle.bonsai_tree.proofs.MadeSlots.{current_slots, slots_more}
 use Rattle.bonsai_tree.proofs.LevelBlocks.{blocks_other}
-use Rattle.bonsai_tree.proofs.Nodes.{SameNode, is_kept, same_or_not, same_tags}
+use Rattle.bonsai_tree.proofs.Nodes.{SameNode, above_none, is_kept, same_or_not, same_tags}
 use Rattle.bonsai_tree.proofs.NodeWrites.{NodeWritten, is_put}
 use Rattle.bonsai_tree.proofs.Puts.{IsPut, PutsTag, tree_put, tree_recached}
+use Rattle.bonsai_tree.proofs.Views.{all_as, geometry_as, others_as, root_as, tree_of}
 
 here_from : (geometry : GeometryView) (level index : ℕ) (place : Place) → IsNode geometry level index → place ≡ node_place level index → IsNodeFrom geometry level place
 here_from geometry level index place node is = record { level = level; index = index; node = node; above = omega arith; place_is = is }
 
 module _ {T : Type 0} (d n : T → List ℕ → List ℕ) where
   -- all copies are the same
-  pub climbs_touched : (level : ℕ) (tree tree' : TreeView) (history : BusHistory) (engine : TagEngineView T) → tree'.geometry ≡ tree.geometry → tree'.root ≡ tree.root →
-      AreNodeCaches tree'.geometry tree'.caches → OtherLevels level tree.caches tree'.caches → ((other at : ℕ) → cached_node tree' other at ≡ cached_node tree other at) →
-      Climbs (tags_of d n) level tree history engine tree' history engine None
-  climbs_touched level tree tree' history engine geometry root nodes others same =
-      climbs_recached d n level tree tree' history engine geometry root (λ are. nodes)
-      (λ other low. others other (λ (e : other ≡ level). absurd (omega (arith, e, low))))
+  pub climbs_touched : (level : ℕ) (tree : TreeView) (root : List ℕ) (nodes nodes' : NodeCacheView) (history : BusHistory) (engine : TagEngineView T) →
+      tree_of root nodes ≡ tree → nodes'.geometry ≡ nodes.geometry → AreNodeCaches nodes'.geometry nodes'.caches → OtherLevels level nodes.caches nodes'.caches →
+      ((other at : ℕ) → node_way nodes'.caches other at ≡ node_way nodes.caches other at) →
+      Climbs (tags_of d n) level tree history engine (tree_of root nodes') history engine None
+  climbs_touched level tree root nodes nodes' history engine view_is geometry are others ways =
+      let touched : TreeView = tree_of root nodes' in
+      let same : (other at : ℕ) → cached_node touched other at ≡ cached_node tree other at = all_as tree root nodes nodes' view_is ways in
+      let geometry_is : touched.geometry ≡ tree.geometry = geometry_as tree root nodes nodes' view_is geometry in
+      let root_is : touched.root ≡ tree.root = root_as tree root nodes nodes' view_is in
+      climbs_recached d n level tree touched history engine geometry_is root_is (λ were. are)
+      (λ other low. others_as tree root nodes nodes' view_is level others other (λ (e : other ≡ level). absurd (omega (arith, e, low))))
       (λ was. record {
         fits = λ quiet.
-            tree_recached (tags_of d n engine) tree tree' engine.made history.written (was.fits quiet) geometry root
+            tree_recached (tags_of d n engine) tree touched engine.made history.written (was.fits quiet) geometry_is root_is
             (λ other at node. ap (λ (o : Option CachedNode). current_of o (last_node other at engine.made)) (same other at))
             (λ other at copy node found unchanged. (was.fits quiet).clean other at copy node (sym (same other at) ∙ found) unchanged);
       })
@@ -110,40 +115,37 @@ module _ {T : Type 0} (d n : T → List ℕ → List ℕ) where
         (subst (λ (w : Place → List ℕ). IsTree (tags_of d n engine) tree engine.made w) (sym read.written) (holds.fits (quiet_before quiet))))
 
     pub climbs_read : Climbs (tags_of d n) level tree old engine tree new engine' (result_err result)
-    climbs_read =
-        let none : length read.moves.more ≡ 0 = none_more engine.made engine'.made read.moves.more read.made read.moves.made in
-        record {
-          moves = read.moves;
-          lines = read.lines;
-          geometry = refl;
-          root = refl;
-          nodes = λ are. are;
-          copies = λ other low. refl;
-          last = λ other at low. ap (λ (m : List Message). last_node other at m) read.made;
-          blocks = λ other low. ap (λ (m : List Message). level_blocks other m) read.made;
-          written = λ other at low. ap (λ (w : Place → List ℕ). w (node_place other at)) read.written;
-          reads = λ other at low. read.alone other at (λ same. omega (arith, same.0, low));
-          holds = λ holds going. record { fits = λ quiet. read_fits holds quiet };
-          honest = λ holds used was. read.honest used (λ quiet. kept_node holds quiet) was;
-          lied = λ holds quiet place is. (read.tampered place (stop_is result (Tampered place) is)).1 (kept_node holds quiet);
-          shown = λ holds quiet some. read.shown (kept_node holds quiet) quiet some;
-          tampered = λ place is. here_from tree.geometry level index place node (read.tampered place (stop_is result (Tampered place) is)).0;
-          found = λ quiet evidence is. here_from tree.geometry level index (evidence_place evidence) node (read.found evidence quiet is);
-          unspent = λ spent is. read.unspent spent (stop_is result (Spent spent) is);
-          room = omega (arith, read.room);
-          no_rise = omega (arith, read.room);
-          writes = record { writes = 0; counted = read.counted; at_most = omega arith; at_least = omega (arith, none) };
-          made_blocks = λ was.
-              subst (λ (m : List Message). NodesAreMade tree.geometry m new.written) (sym read.made)
-              (subst (λ (w : Place → List ℕ). NodesAreMade tree.geometry engine.made w) (sym read.written) was);
-          last_blocks = λ remembered was.
-              subst (λ (m : List Message). NodesHoldLast tree.geometry m new.written) (sym read.made)
-              (subst (λ (w : Place → List ℕ). NodesHoldLast tree.geometry engine.made w) (sym read.written) was);
-          slots = λ holds quiet tagged. subst (λ (m : List Message). SlotsAreTags (tags_of d n engine) tree.geometry m) (sym read.made) tagged;
-          read = λ holds quiet other at held. read_up_held tree engine.made other at old new held;
-          unread = λ holds quiet other at none.
-              read.unread (kept_node holds (quiet_before quiet)) other at (ap (λ (m : List Message). last_node other at m) (sym read.made) ∙ none);
-        }
+    climbs_read = record {
+      moves = read.moves;
+      lines = read.lines;
+      geometry = refl;
+      root = refl;
+      nodes = λ are. are;
+      copies = λ other low. refl;
+      last = λ other at low. ap (λ (m : List Message). last_node other at m) read.made;
+      blocks = λ other low. ap (λ (m : List Message). level_blocks other m) read.made;
+      written = λ other at low. ap (λ (w : Place → List ℕ). w (node_place other at)) read.written;
+      reads = λ other at low. read.alone other at (λ same. omega (arith, same.0, low));
+      holds = λ holds going. record { fits = λ quiet. read_fits holds quiet };
+      honest = λ holds used was. read.honest used (λ quiet. kept_node holds quiet) was;
+      lied = λ holds quiet place is. (read.tampered place (stop_is result (Tampered place) is)).1 (kept_node holds quiet);
+      shown = λ holds quiet some. read.shown (kept_node holds quiet) quiet some;
+      tampered = λ place is. here_from tree.geometry level index place node (read.tampered place (stop_is result (Tampered place) is)).0;
+      found = λ quiet evidence is. here_from tree.geometry level index (evidence_place evidence) node (read.found evidence quiet is);
+      unspent = λ spent is. read.unspent spent (stop_is result (Spent spent) is);
+      room = omega (arith, read.room);
+      no_rise = omega (arith, read.room);
+      made_blocks = λ was.
+          subst (λ (m : List Message). NodesAreMade tree.geometry m new.written) (sym read.made)
+          (subst (λ (w : Place → List ℕ). NodesAreMade tree.geometry engine.made w) (sym read.written) was);
+      last_blocks = λ remembered was.
+          subst (λ (m : List Message). NodesHoldLast tree.geometry m new.written) (sym read.made)
+          (subst (λ (w : Place → List ℕ). NodesHoldLast tree.geometry engine.made w) (sym read.written) was);
+      slots = λ holds quiet tagged. subst (λ (m : List Message). SlotsAreTags (tags_of d n engine) tree.geometry m) (sym read.made) tagged;
+      read = λ holds quiet other at held. read_up_held tree engine.made other at old new held;
+      unread = λ holds quiet other at none.
+          read.unread (kept_node holds (quiet_before quiet)) other at (ap (λ (m : List Message). last_node other at m) (sym read.made) ∙ none);
+    }
 
     -- and its block is kept as a copy
     module _ (tree' : TreeView) (block : List ℕ) (is_ok : result_err result ≡ None) (geometry : tree'.geometry ≡ tree.geometry) (root : tree'.root ≡ tree.root)
@@ -224,7 +226,6 @@ module _ {T : Type 0} (d n : T → List ℕ → List ℕ) where
             unspent = climbs.unspent;
             room = climbs.room;
             no_rise = climbs.no_rise;
-            writes = climbs.writes;
             made_blocks = climbs.made_blocks;
             last_blocks = climbs.last_blocks;
             slots = climbs.slots;
@@ -261,7 +262,6 @@ module _ {T : Type 0} (d n : T → List ℕ → List ℕ) where
         evidence = wrote.evidence;
         room = let room : max engine.room 1 ≤ engine'.room + length wrote.moves.more = wrote.room in omega (arith, room);
         reads = wrote.reads;
-        writes = wrote.writes;
         made_blocks = wrote.made_blocks;
         last_blocks = wrote.last_blocks;
         honest = wrote.honest;
@@ -328,7 +328,6 @@ module _ {T : Type 0} (d n : T → List ℕ → List ℕ) where
     unspent = λ spent is. not_spent stop spent can is;
     room = wrote.room;
     no_rise = no_rise;
-    writes = wrote.writes;
     made_blocks = wrote.made_blocks;
     last_blocks = λ remembered was. wrote.last_blocks (none_unwritten stop can remembered) was;
     slots = slots;

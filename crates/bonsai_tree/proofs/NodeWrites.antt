@@ -15,21 +15,21 @@ use Rattle.sec_base.proofs.LastMessages.{last_of_same}
 use Rattle.sec_base.proofs.SamePlaces.{at_place-here}
 use Rattle.bus_model.specs.BusHistory.{BusHistory}
 use Rattle.tag_engine.specs.TagEngine.{TagEngineView, after_make, tags_of}
-use Rattle.checked_bus.specs.Accesses.{AreCounted}
 use Rattle.checked_bus.specs.Steps.{IsAccounted, Moves, SameLines, SamePlace, WritesOnce}
 use Rattle.bonsai_tree.specs.Tree.{NodesAreMade, NodesHoldLast}
 use Rattle.bonsai_tree.specs.Writing.{WritesNodes}
-use Rattle.checked_bus.proofs.Steps.{counted_not}
 use Rattle.bonsai_tree.proofs.Nodes.{SameNode, same_or_not}
 use Rattle.bonsai_tree.proofs.Puts.{IsPut}
 
 -- the node of a message has its block
-pub last_own : (made : List Message) (level index : ℕ) (block : List ℕ) → last_node level index (made ++ Node level index block ∷ []) ≡ Some block
-last_own made level index block =
+pub part_own : (level index : ℕ) (block : List ℕ) → node_part level index (Node level index block) ≡ Some block
+part_own level index block =
     let first : nat_eq level level ≡ true = (Decides-eqb level level).1 refl in
     let second : nat_eq index index ≡ true = (Decides-eqb index index).1 refl in
-    let part : node_part level index (Node level index block) ≡ Some block = rw (first, second) refl in
-    last_of_same (node_part level index) made (Node level index block) block part
+    rw (first, second) refl
+
+pub last_own : (made : List Message) (level index : ℕ) (block : List ℕ) → last_node level index (made ++ Node level index block ∷ []) ≡ Some block
+last_own made level index block = last_of_same (node_part level index) made (Node level index block) block (part_own level index block)
 
 node_apart : (level index other at : ℕ) → ¬ (SameNode level index other at) → node_place other at ≢ node_place level index
 node_apart level index other at apart same =
@@ -128,7 +128,6 @@ module _ {T : Type 0} (d n : T → List ℕ → List ℕ) (level index : ℕ) (b
     evidence = ap (λ (e : TagEngineView T). e.evidence) write.made;
     room = room_left;
     reads = once.reads;
-    writes = record { writes = 1; counted = once.counted; at_most = omega (arith, one_message); at_least = omega (arith, one_message) };
     made_blocks = made_kept geometry (inl (is_put once).stored);
     last_blocks = λ none. last_kept geometry once;
     honest = write.honest;
@@ -141,12 +140,6 @@ module _ {T : Type 0} (d n : T → List ℕ → List ℕ) (level index : ℕ) (b
     evidence = ap (λ (e : TagEngineView T). e.evidence) write.made;
     room = room_left;
     reads = ap (λ (t : BusHistory). t.reads) same;
-    writes = record {
-      writes = 0;
-      counted = subst (λ (t : BusHistory). AreCounted old t 0) (sym same) (counted_not old);
-      at_most = omega arith;
-      at_least = omega (arith, one_message);
-    };
     made_blocks = made_kept geometry (inr same);
     last_blocks = λ none. absurd (omega (arith, none));
     honest = write.honest;

@@ -1,7 +1,9 @@
 -- What is read of the tree, and what is not changed.
-use Rattle.std.proofs.Common.{◌≡◌, ◌≢◌, ◌⊎◌, inl, inr, ℕ, ◌+◌, ◌/◌, ◌<◌, ◌≤◌, Bool, true, false, cond, nat_lt, List, Option, Some, None, Result, Ok, Err, refl, ap, sym, ◌∙◌, subst, arith}
+use Rattle.std.proofs.Common.{◌≡◌, ◌≢◌, ◌⊎◌, inl, inr, ℕ, ◌+◌, ◌*◌, ◌/◌, ◌^◌, ◌<◌, ◌≤◌, Bool, true, false, cond, nat_lt, List, Option, Some, None, Result, Ok, Err, refl, ap, sym, ◌∙◌, subst, arith}
 use Rattle.std.specs.Option.{option_or}
 use Rattle.std.proofs.lemmas.Bool.{cases_eq}
+use Rattle.std.proofs.lemmas.Grind.{pow_more}
+use Rattle.std.proofs.Math.Nat.{div-div-eq-div-mul, div-one, mul_comm, pow-zero}
 use Rattle.std.proofs.lemmas.Bool.Decides.{Decides-ltb}
 use Rattle.sec_base.specs.Evidence.{evidence_place}
 use Rattle.sec_base.specs.Geometry.{GeometryView, IsNode, arity, slot}
@@ -18,8 +20,8 @@ use Rattle.tag_engine.proofs.Collisions.{collides}
 use Rattle.checked_bus.specs.Checks.{IsCheckedNode}
 use Rattle.checked_bus.specs.Steps.{Moves}
 use Rattle.bonsai_tree.specs.KeptRead.{IsKeptNode}
-use Rattle.bonsai_tree.specs.Node.{block_or_zeros, tag_in_slot, tag_of_last}
-use Rattle.bonsai_tree.specs.Tree.{TreeView, IsTree, current_block, kept_tag}
+use Rattle.bonsai_tree.specs.Node.{block_or_zeros, path_index, tag_in_slot, tag_of_last}
+use Rattle.bonsai_tree.specs.Tree.{TreeView, IsTree, above, current_block, kept_tag}
 
 -- Two nodes are the same
 abbrev pub SameNode : ℕ → ℕ → ℕ → ℕ → Type 0
@@ -109,3 +111,14 @@ pub is_kept : (tag_of : Message → List ℕ) (tree : TreeView) (made : List Mes
 is_kept tag_of tree made written level index node fits =
     kept_by tag_of made written level index (kept_tag tree made level index) (last_node level index made) refl
     (fits.slots level index node) (fits.stored level index node)
+
+pub above_none : (geometry : GeometryView) (index : ℕ) → above geometry index 0 ≡ index
+above_none geometry index = ap (λ (n : ℕ). index / n) (pow-zero (arity geometry)) ∙ div-one index
+
+-- a path that goes on from the node above
+pub path_up : (geometry : GeometryView) (page level more : ℕ) → level ≡ 1 + more → path_index geometry level page ≡ above geometry (page / arity geometry) more
+path_up geometry page level more is =
+    let slots : ℕ = arity geometry in
+    let exponent : slots ^ level ≡ slots * slots ^ more =
+    ap (λ (n : ℕ). slots ^ n) (is ∙ (omega arith)) ∙ pow_more slots more ∙ mul_comm (slots ^ more) slots in
+    ap (λ (n : ℕ). page / n) exponent ∙ sym (div-div-eq-div-mul page slots (slots ^ more))

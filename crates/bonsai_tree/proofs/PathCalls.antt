@@ -1,11 +1,10 @@
 -- What a fetch and an update come to.
-use Rattle.std.proofs.Common.{◌≡◌, ◌≢◌, ◌⊎◌, inl, inr, ℕ, ◌+◌, ◌-◌, ◌*◌, ◌/◌, ◌^◌, ◌<◌, ◌≤◌, List, ◌++◌, length, Option, Some, None, Result, Ok, Err, refl, ap, sym, ◌∙◌, subst, arith, length-append}
+use Rattle.std.proofs.Common.{◌≡◌, ◌≢◌, ◌⊎◌, inl, inr, ℕ, ◌+◌, ◌-◌, ◌/◌, ◌^◌, ◌<◌, ◌≤◌, List, length, Option, Some, None, Result, Ok, Err, refl, ap, sym, ◌∙◌, subst, arith, length-append}
 use Rattle.std.specs.Prelude.{IfOk, OnOk}
 use Rattle.std.specs.Result.{result_err}
 use Rattle.std.proofs.lemmas.Bool.{cases_lt}
-use Rattle.std.proofs.lemmas.Grind.{pow_more}
-use Rattle.std.proofs.Math.Nat.{div-div-eq-div-mul, mul_comm, pow-le-pow_right}
-use Rattle.sec_base.specs.Count.{Rose, RoseBy}
+use Rattle.std.proofs.Math.Nat.{pow-le-pow_right}
+use Rattle.sec_base.specs.Count.{RoseBy, more_by}
 use Rattle.sec_base.specs.Evidence.{evidence_place}
 use Rattle.sec_base.specs.Geometry.{GeometryView, IsNode, arity, page_count}
 use Rattle.sec_base.specs.LastMessage.{last_node}
@@ -20,15 +19,13 @@ use Rattle.sec_base.specs.declared.stop.MemStop.TheVariants.{NoMemory}
 use Rattle.sec_base.proofs.Results.{was_none, some_or_none}
 use Rattle.bus_model.specs.BusHistory.{BusHistory}
 use Rattle.tag_engine.specs.TagEngine.{TagEngineView, tags_of}
-use Rattle.checked_bus.specs.Accesses.{WritesMessages}
-use Rattle.checked_bus.specs.Steps.{unwritten_in}
 use Rattle.tag_engine.proofs.Marks.{engine_tag_some}
 use Rattle.bonsai_tree.specs.Climb.{Climbs}
 use Rattle.bonsai_tree.specs.KeptRead.{IsKeptNode, ReadsKept}
 use Rattle.bonsai_tree.specs.Node.{block_or_zeros, no_block, no_tag, page_block, path_index}
 use Rattle.bonsai_tree.specs.Tree.{TreeView, HoldsTree, IsFetchPlace, IsKept, IsNodeFrom, IsReadByTag, NodeCame, PathWasRead, SamePages, WasReadUp, above, cached_node, kept_tag, path_accesses, present_accesses}
-use Rattle.bonsai_tree.proofs.Climbs.{above_none, came_after, came_before, climbs_on, climbs_up, unmade_before}
-use Rattle.bonsai_tree.proofs.Nodes.{same_tags}
+use Rattle.bonsai_tree.proofs.Climbs.{came_after, came_before, climbs_on, climbs_up, unmade_before}
+use Rattle.bonsai_tree.proofs.Nodes.{above_none, path_up, same_tags}
 use Rattle.bonsai_tree.proofs.NodeCalls.{climbs_read, kept_node}
 
 -- where it is no refusal
@@ -61,13 +58,6 @@ path_more levels =
     omega (arith, same, some)
 
 -- where a node of level 1 has a copy, the path above it was read
-path_up : (geometry : GeometryView) (page level more : ℕ) → level ≡ 1 + more → path_index geometry level page ≡ above geometry (page / arity geometry) more
-path_up geometry page level more is =
-    let slots : ℕ = arity geometry in
-    let exponent : slots ^ level ≡ slots * slots ^ more =
-    ap (λ (n : ℕ). slots ^ n) (is ∙ (omega arith)) ∙ pow_more slots more ∙ mul_comm (slots ^ more) slots in
-    ap (λ (n : ℕ). page / n) exponent ∙ sym (div-div-eq-div-mul page slots (slots ^ more))
-
 pub path_read : (tree : TreeView) (page from : ℕ) (made : List Message) (old mid new : BusHistory) → 1 ≤ from →
     ((place : Place) → RoseBy 0 (mid.reads place) (new.reads place)) →
     WasReadUp tree made 1 (page / arity tree.geometry) old mid → (level : ℕ) → from ≤ level → level ≤ tree.geometry.levels →
@@ -86,15 +76,6 @@ path_read tree page from made old mid new some stays up level low high none =
     (subst (λ (i : ℕ). NodeCame made (1 + (level - 1)) i old mid) (sym index_is) came))
 
 module _ {T : Type 0} (d n : T → List ℕ → List ℕ) where
-  -- the messages that were made more
-  pub climb_writes : (from : ℕ) (tree tree' : TreeView) (old new : BusHistory) (engine engine' : TagEngineView T) (stop : Option MemStop) →
-      Climbs (tags_of d n) from tree old engine tree' new engine' stop → (more : List Message) → engine'.made ≡ engine.made ++ more →
-      WritesMessages old new (length more) (unwritten_in stop)
-  climb_writes from tree tree' old new engine engine' stop climbs more is =
-      let same : length climbs.moves.more ≡ length more =
-      omega (arith, ap length is, ap length climbs.moves.made, length-append engine.made climbs.moves.more, length-append engine.made more) in
-      subst (λ (k : ℕ). WritesMessages old new k (unwritten_in stop)) same climbs.writes
-
   pub climb_room : (from cost : ℕ) (tree tree' : TreeView) (old new : BusHistory) (engine engine' : TagEngineView T) (stop : Option MemStop) →
       Climbs (tags_of d n) from tree old engine tree' new engine' stop → length engine'.made ≤ length engine.made + cost → engine.room ≤ engine'.room + cost
   climb_room from cost tree tree' old new engine engine' stop climbs few =
@@ -178,14 +159,15 @@ module _ {T : Type 0} (d n : T → List ℕ → List ℕ) where
     by_kept (Ok block) going (inr tagged) =
         let some : tag ≢ no_tag = λ none. engine_tag_some (d engine'.tagger) (n engine'.tagger) engine'.geometry (Node 0 page block) (tagged ∙ none) in
         let remembered : result_err result ≢ Some NoMemory = λ is. let no : None ≡ Some NoMemory = going ∙ is in absurd (cc) in
-        let rose : Rose (mid.reads (node_place 0 page)) (new.reads (node_place 0 page)) = read.asked some remembered in
-        let same : mid.reads (node_place 0 page) ≡ old.reads (node_place 0 page) = climbs.reads 0 page (omega arith) in
-        inr (λ none. some (is_tag engine''.made ∙ none), subst (λ (count : ℕ). Rose count (new.reads (node_place 0 page))) same rose)
+        inr (λ none. some (is_tag engine''.made ∙ none), read.asked some remembered ∙ ap (more_by 1) (climbs.reads 0 page (omega arith)))
     by_kept (Err stop) going passed = tt
 
     -- its block is read exactly where a tag is kept of it, and that of no other page
     pub fetched_by_tag : OnOk result (IsReadByTag (kept_tag tree' engine''.made 0 page) page old new)
     fetched_by_tag = by_kept result refl read.checked
+
+    pub fetched_once : new.reads (node_place 0 page) ≤ old.reads (node_place 0 page) + 1
+    fetched_once = omega (arith, read.one, climbs.reads 0 page (omega arith))
 
     pub fetched_alone : (other : ℕ) → other ≢ page → new.reads (node_place 0 other) ≡ old.reads (node_place 0 other)
     fetched_alone other apart = read.alone 0 other (λ same. apart same.1) ∙ climbs.reads 0 other (omega arith)

@@ -1,7 +1,8 @@
 -- What a fetch and an update make, by what they make of nodes.
-use Rattle.std.proofs.Common.{◌≡◌, ◌+◌, ◌≤◌, ℕ, List, length, Option, Some, None}
+use Rattle.std.proofs.Common.{◌≡◌, ◌+◌, ◌≤◌, ℕ, List, length, Option, Some, None, subst}
 use Rattle.sec_base.specs.Evidence.{evidence_place}
 use Rattle.sec_base.specs.declared.evidence.Evidence.{Evidence}
+use Rattle.sec_base.specs.declared.message.Message.{Message}
 use Rattle.sec_base.specs.declared.place.Place.{Place}
 use Rattle.sec_base.specs.declared.stop.MemStop.{MemStop}
 use Rattle.sec_base.specs.declared.stop.MemStop.TheVariants.{Tampered}
@@ -9,10 +10,12 @@ use Rattle.bus_model.specs.BusHistory.{BusHistory}
 use Rattle.tag_engine.specs.TagEngine.{TagEngineView, tags_of}
 use Rattle.bonsai_tree.specs.Climb.{Climbs}
 use Rattle.bonsai_tree.specs.NodeCache.{AreNodeCaches}
-use Rattle.bonsai_tree.specs.Tree.{EndsQuietly, GoesOutFor, HoldsTree, TreeView, WritesBack, path_accesses}
+use Rattle.bonsai_tree.specs.Tree.{EndsQuietly, GoesOutFor, HasFewNodes, HoldsTree, TreeView, WritesBack, path_accesses}
+use Rattle.bonsai_tree.specs.NodesHad.{MayBeHad, NodesHad, since}
 use Rattle.bonsai_tree.specs.TreeCall.{TreeCall}
 use Rattle.bonsai_tree.proofs.Copies.{few_copies}
-use Rattle.bonsai_tree.proofs.PathCalls.{climb_room, climb_writes}
+use Rattle.bonsai_tree.proofs.NodesJoined.{since_is}
+use Rattle.bonsai_tree.proofs.PathCalls.{climb_room}
 use Rattle.bonsai_tree.proofs.WrittenBack.{came_unless_held}
 
 pub tree_called : {T : Type 0} (d n : T → List ℕ → List ℕ) (Where : Place → Type 0) (from : ℕ) (tree tree' : TreeView) (old new : BusHistory) (engine engine' : TagEngineView T)
@@ -22,31 +25,38 @@ pub tree_called : {T : Type 0} (d n : T → List ℕ → List ℕ) (Where : Plac
     ((place : Place) → stop ≡ Some (Tampered place) → Where place) →
     (engine.evidence ≡ None → (evidence : Evidence) → engine'.evidence ≡ Some evidence → Where (evidence_place evidence)) →
     (HoldsTree (tags_of d n) tree old engine → engine'.evidence ≡ None → stop ≡ None → GoesOutFor tree old engine.made tree' new) →
+    (stop ≡ None → NodesHad (MayBeHad tree.geometry Where (since engine.made engine'.made)) 1 tree old tree' new) →
     TreeCall (tags_of d n) Where tree old engine tree' new engine' stop
-tree_called d n Where from tree tree' old new engine engine' stop climbs nodes back once few tampered found out_for = record {
-  moves = climbs.moves;
-  lines = climbs.lines;
-  geometry = climbs.geometry;
-  root = climbs.root;
-  few_nodes = λ level. few_copies tree'.geometry tree'.caches level nodes;
-  holds = climbs.holds;
-  honest = climbs.honest;
-  lied = climbs.lied;
-  shown = climbs.shown;
-  tampered = tampered;
-  found = found;
-  unspent = climbs.unspent;
-  writes = climb_writes d n from tree tree' old new engine engine' stop climbs;
-  made_blocks = climbs.made_blocks;
-  last_blocks = climbs.last_blocks;
-  slots = climbs.slots;
-  read = climbs.read;
-  came = λ holds quiet memory. came_unless_held _ tree tree' old new engine.made engine'.made stop back (holds, quiet) memory;
-  unread = climbs.unread;
-  once = once;
-  few = few;
-  room = climb_room d n from (path_accesses tree.geometry.levels) tree tree' old new engine engine' stop climbs few;
-  no_rise = climbs.no_rise;
-  written_back = back;
-  out_for = out_for;
-}
+tree_called d n Where from tree tree' old new engine engine' stop climbs nodes back once few tampered found out_for had =
+    let few_nodes : HasFewNodes tree' = λ level. few_copies tree'.geometry tree'.caches level nodes in record {
+      steps = record {
+        moves = climbs.moves;
+        lines = climbs.lines;
+        geometry = climbs.geometry;
+        root = climbs.root;
+        few_nodes = λ before. few_nodes;
+        no_rise = climbs.no_rise;
+        holds = climbs.holds;
+        honest = climbs.honest;
+        lied = climbs.lied;
+        shown = climbs.shown;
+        tampered = tampered;
+        found = found;
+        unspent = climbs.unspent;
+        made_blocks = climbs.made_blocks;
+        last_blocks = climbs.last_blocks;
+        slots = climbs.slots;
+        read = climbs.read;
+        came = λ holds quiet memory. came_unless_held _ tree tree' old new engine.made engine'.made stop back (holds, quiet) memory;
+        unread = climbs.unread;
+        written_back = back;
+        out_for = out_for;
+        nodes_had = λ ended.
+            subst (λ (more : List Message). NodesHad (MayBeHad tree.geometry Where more) 1 tree old tree' new)
+            (since_is engine.made engine'.made climbs.moves.more climbs.moves.made) (had ended);
+      };
+      once = once;
+      few = few;
+      room = climb_room d n from (path_accesses tree.geometry.levels) tree tree' old new engine engine' stop climbs few;
+      few_nodes = few_nodes;
+    }

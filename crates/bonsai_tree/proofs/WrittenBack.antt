@@ -25,10 +25,11 @@ use Rattle.checked_bus.specs.Steps.{Moves, unwritten_in}
 use Rattle.bonsai_tree.specs.Climb.{Climbs, IsBlockOf, IsVictim, NoNode, WritesUp}
 use Rattle.bonsai_tree.specs.Node.{CachedNode, times_made, unread_count}
 use Rattle.bonsai_tree.specs.NodeCache.{copy_of}
-use Rattle.bonsai_tree.specs.Tree.{CameUnlessHeld, EndsQuietly, HasChild, IsCopyAfter, NodeCame, TreeView, WritesBack, cached_node}
+use Rattle.bonsai_tree.specs.Tree.{CameUnlessHeld, EndsQuietly, HasChild, IsCopyAfter, IsMarked, NodeCame, TreeView, WritesBack, cached_node}
 use Rattle.bonsai_tree.proofs.Climbs.{came_after, came_before, unmade_before}
 use Rattle.bonsai_tree.proofs.Nodes.{SameNode, same_or_not}
 use Rattle.bonsai_tree.proofs.NodeCalls.{held_copy}
+use Rattle.bonsai_tree.proofs.NodeWrites.{part_own}
 
 none_in : (message : Message) → Contains [] message → ⊥
 none_in message listed = omega (arith, listed.1)
@@ -58,6 +59,15 @@ unfolding times_made
 made_on level index front more =
     ap length (filter_map-append (node_part level index) front more)
     ∙ length-append (filter_map (node_part level index) front) (filter_map (node_part level index) more)
+
+-- a message of the node, after others
+pub made_more : (level index : ℕ) (block : List ℕ) (made mid made' more : List Message) → mid ≡ made ++ more → made' ≡ mid ++ Node level index block ∷ [] →
+    times_made level index made < times_made level index made'
+unfolding times_made
+made_more level index block made mid made' more adds one =
+    let times : List Message → ℕ = λ messages. times_made level index messages in
+    let own : times (Node level index block ∷ []) ≡ 1 = ap (λ (part : Option (List ℕ)). length (cons_option part [])) (part_own level index block) in
+    omega (arith, ap times adds, made_on level index made more, ap times one, made_on level index mid (Node level index block ∷ []), own)
 
 part_apart : (level index other at : ℕ) (b : Bool) (block : List ℕ) (rest : List (List ℕ)) → Decides b ((other ≡ level) × (at ≡ index)) →
     ¬ ((other ≡ level) × (at ≡ index)) → length (cons_option (cond b (Some block) None) rest) ≡ length rest
@@ -248,13 +258,43 @@ unmade_once tree tree' old new made made' more stop level index adds none stays 
     (turned_unmade (cached_node tree level index) (cached_node tree' level index) (last_node level index made) (times_made level index more) (unwritten_in stop)
     (old.reads (node_place level index)) (new.reads (node_place level index)) none stays came)
 
+-- Copies that are marked as changed
+
+flag_or_not : (flag : Bool) → (Some flag ≡ Some true) ⊎ ¬ (Some flag ≡ Some true)
+flag_or_not true = inl refl
+flag_or_not false = inr (λ (is : Some false ≡ Some true). cc)
+
+mark_or_not : (found : Option CachedNode) →
+    (option_map (λ (copy : CachedNode). copy.changed) found ≡ Some true) ⊎ ¬ (option_map (λ (copy : CachedNode). copy.changed) found ≡ Some true)
+mark_or_not None = inr (λ (is : None ≡ Some true). cc)
+mark_or_not (Some copy) = flag_or_not copy.changed
+
+pub marked_or_not : (tree : TreeView) (level index : ℕ) → IsMarked tree level index ⊎ ¬ (IsMarked tree level index)
+marked_or_not tree level index = mark_or_not (cached_node tree level index)
+
+mark_same : (tree tree' : TreeView) (level index : ℕ) → cached_node tree' level index ≡ cached_node tree level index → IsMarked tree level index →
+    IsMarked tree' level index
+mark_same tree tree' level index same was = ap (option_map (λ (copy : CachedNode). copy.changed)) same ∙ was
+
+-- where one copy came or changed, and is marked if it was
+marks_kept : (level index : ℕ) (tree tree' : TreeView) → (IsMarked tree level index → IsMarked tree' level index) →
+    ((other at : ℕ) → ¬ (SameNode level index other at) → cached_node tree' other at ≡ cached_node tree other at) → (other at : ℕ) →
+    IsMarked tree other at → IsMarked tree' other at
+marks_kept level index tree tree' here same other at was =
+    elim (same_or_not level index other at) [
+      | inr apart ↦ mark_same tree tree' other at (same other at apart) was
+      | inl is ↦
+          subst (λ (k : ℕ). IsMarked tree' k at) (sym is.0) (subst (λ (i : ℕ). IsMarked tree' level i) (sym is.1)
+          (here (subst (λ (i : ℕ). IsMarked tree level i) is.1 (subst (λ (k : ℕ). IsMarked tree k at) is.0 was))))
+    ]
+
 -- nothing was made
 pub up_unmade : (quiet : Type 0) (from : ℕ) (Own : ℕ → ℕ → List ℕ → Type 0) (tree tree' : TreeView) (old new : BusHistory) (made made' : List Message) (stop : Option MemStop) →
     ((place : Place) → RoseBy 0 (old.reads place) (new.reads place)) → made' ≡ made →
     ((level index : ℕ) (copy : CachedNode) → cached_node tree' level index ≡ Some copy →
     (cached_node tree level index ≡ Some copy) ⊎ ((copy.changed ≡ false) × (quiet → NodeCame made level index old new))) →
-    WritesUp quiet from Own tree old made tree' new made' stop
-up_unmade quiet from Own tree tree' old new made made' stop stays same copies =
+    ((level index : ℕ) → IsMarked tree level index → IsMarked tree' level index) → WritesUp quiet from Own tree old made tree' new made' stop
+up_unmade quiet from Own tree tree' old new made made' stop stays same copies marks =
     let adds : made' ≡ made ++ [] = same ∙ sym (append-nil made) in
     record {
       back = record {
@@ -269,6 +309,7 @@ up_unmade quiet from Own tree tree' old new made made' stop stays same copies =
               | inl before ↦ inl (λ (none : cached_node tree level index ≡ None). let both : None ≡ Some found.0 = sym none ∙ before in absurd (cc))
               | inr came ↦ inr (came.1 calm)
             ]);
+        unmarked = λ level index was gone. absurd (gone (marks level index was));
         copies = λ level index copy found. elim (copies level index copy found) [
           | inl before ↦ inl before
           | inr came ↦ inr (inl came)
@@ -284,14 +325,15 @@ pub up_same : (quiet : Type 0) (from : ℕ) (Own : ℕ → ℕ → List ℕ → 
     ((level index : ℕ) → cached_node tree' level index ≡ cached_node tree level index) → WritesUp quiet from Own tree old made tree' new made' stop
 up_same quiet from Own tree tree' old new made made' stop stays unmade same =
     up_unmade quiet from Own tree tree' old new made made' stop stays unmade (λ level index copy found. inl (sym (same level index) ∙ found))
+    (λ level index. mark_same tree tree' level index (same level index))
 
 -- a node came, and is kept as a copy
 pub up_put : (quiet : Type 0) (from : ℕ) (Own : ℕ → ℕ → List ℕ → Type 0) (level index : ℕ) (block : List ℕ) (tree tree' : TreeView) (old new : BusHistory)
     (made made' : List Message) (stop : Option MemStop) → ((place : Place) → RoseBy 0 (old.reads place) (new.reads place)) → made' ≡ made →
-    cached_node tree' level index ≡ Some (record { block = block; changed = false }) →
+    cached_node tree level index ≡ None → cached_node tree' level index ≡ Some (record { block = block; changed = false }) →
     ((other at : ℕ) → ¬ (SameNode level index other at) → cached_node tree' other at ≡ cached_node tree other at) →
     (quiet → NodeCame made level index old new) → WritesUp quiet from Own tree old made tree' new made' stop
-up_put quiet from Own level index block tree tree' old new made made' stop stays unmade put same came =
+up_put quiet from Own level index block tree tree' old new made made' stop stays unmade absent put same came =
     up_unmade quiet from Own tree tree' old new made made' stop stays unmade
     (λ other at copy found. elim (same_or_not level index other at) [
       | inr apart ↦ inl (sym (same other at apart) ∙ found)
@@ -304,14 +346,17 @@ up_put quiet from Own level index block tree tree' old new made made' stop stays
             λ calm. subst (λ (k : ℕ). NodeCame made k at old new) (sym here.0) (subst (λ (i : ℕ). NodeCame made level i old new) (sym here.1) (came calm)),
           )
     ])
+    (marks_kept level index tree tree' (λ was.
+    let none : None ≡ Some true = sym (ap (option_map (λ (copy : CachedNode). copy.changed)) absent) ∙ was in absurd (cc)) same)
 
 -- a node was made, and no copy changed but that of the node above it
 pub up_made : (quiet : Type 0) (level index : ℕ) (block : List ℕ) (tree tree' : TreeView) (old new : BusHistory) (made made' : List Message) (stop : Option MemStop) →
     ((place : Place) → RoseBy 0 (old.reads place) (new.reads place)) → made' ≡ made ++ Node level index block ∷ [] →
     ((other at : ℕ) → ¬ (SameNode (level + 1) (index / arity tree.geometry) other at) → cached_node tree' other at ≡ cached_node tree other at) →
     ((other at : ℕ) → cached_node tree' other at ≢ None → cached_node tree other at ≢ None) →
+    (IsMarked tree (level + 1) (index / arity tree.geometry) → IsMarked tree' (level + 1) (index / arity tree.geometry)) →
     WritesUp quiet (level + 1) (IsBlockOf level index block) tree old made tree' new made' stop
-up_made quiet level index block tree tree' old new made made' stop stays is same held =
+up_made quiet level index block tree tree' old new made made' stop stays is same held marks =
     let not_high : (other at : ℕ) (bytes : List ℕ) → level + 1 ≤ other → Contains (Node level index block ∷ []) (Node other at bytes) → ⊥ =
     λ other at bytes high listed.
     let one : Node level index block ≡ Node other at bytes = one_in (Node other at bytes) (Node level index block) listed in
@@ -326,6 +371,7 @@ up_made quiet level index block tree tree' old new made made' stop stays is same
             unmade_once tree tree' old new made made' (Node level index block ∷ []) stop other at is
             (not_made other at (Node level index block ∷ []) (λ bytes listed. not_high other at bytes high listed)) (stays (node_place other at))
             (λ copied. inl (held other at copied));
+        unmarked = λ other at was gone. absurd (gone (marks_kept (level + 1) (index / arity tree.geometry) tree tree' marks same other at was));
         copies = λ other at copy found. elim (same_or_not (level + 1) (index / arity tree.geometry) other at) [
           | inr apart ↦ inl (sym (same other at apart) ∙ found)
           | inl here ↦
@@ -364,6 +410,7 @@ up_wider quiet from more_from tree tree' old new made made' stop wider stays bel
           (λ held. inl (λ (none : cached_node tree level index ≡ None). held (below level index low ∙ none)))
       | inr far ↦ up.back.once_a_copy calm level index far
     ];
+    unmarked = up.back.unmarked;
     copies = up.back.copies;
   };
   own = λ level index block low listed. up.own level index block (omega (arith, low, wider)) listed;
@@ -380,53 +427,69 @@ up_as quiet from Own All tree tree' old new made made' stop among up = record {
   once = up.once;
 }
 
--- one call after another, of which the first makes nothing below
+-- one call after another
+pub back_on : (quiet early calm : Type 0) (from : ℕ) (tree mid tree' : TreeView) (first second third : BusHistory) (made made' made'' : List Message) (stop : Option MemStop) →
+    mid.geometry ≡ tree.geometry →
+    ((place : Place) → RoseBy 0 (first.reads place) (second.reads place)) → ((place : Place) → RoseBy 0 (second.reads place) (third.reads place)) →
+    (calm → early) → (calm → quiet) →
+    WritesBack early from tree first made mid second made' None → WritesBack quiet from mid second made' tree' third made'' stop →
+    WritesBack calm from tree first made tree' third made'' stop
+back_on quiet early calm from tree mid tree' first second third made made' made'' stop geometry before after sooner later back next =
+    let sum : (level index : ℕ) → times_made level index (back.more ++ next.more) ≡ times_made level index back.more + times_made level index next.more =
+    λ level index. made_on level index back.more next.more in
+    record {
+      more = back.more ++ next.more;
+      made_more = next.made_more ∙ ap (λ (messages : List Message). messages ++ next.more) back.made_more ∙ append_assoc made back.more next.more;
+      changed = λ level index block high listed. elim (Contains-append_cases back.more next.more (Node level index block) listed) [
+        | inl sooner_listed ↦ elim (back.changed level index block high sooner_listed) [
+          | inl was ↦ inl was
+          | inr child ↦ inr (child_left tree.geometry back.more next.more level index child)
+        ]
+        | inr late ↦ elim (next.changed level index block high late) [
+          | inl was ↦ changed_before early tree first made second back.more next.more level index block (back.copies level index (record { block = block; changed = true }) was)
+          | inr child ↦ inr (child_right mid.geometry tree.geometry back.more next.more level index geometry child)
+        ]
+      ];
+      once_a_copy = λ is level index high.
+          let had : ℕ = unread_count (cached_node tree level index) (last_node level index made) in
+          let has : ℕ = unread_count (cached_node tree' level index) (last_node level index made'') in
+          let both : RoseBy (times_made level index back.more + times_made level index next.more + has - (had + unwritten_in stop))
+          (first.reads (node_place level index)) (third.reads (node_place level index)) =
+          turned_on (times_made level index back.more) (times_made level index next.more) had
+          (unread_count (cached_node mid level index) (last_node level index made')) has (unwritten_in stop)
+          (first.reads (node_place level index)) (second.reads (node_place level index)) (third.reads (node_place level index))
+          (back.once_a_copy (sooner is) level index high) (next.once_a_copy (later is) level index high) in
+          subst (λ (k : ℕ). RoseBy (k + has - (had + unwritten_in stop)) (first.reads (node_place level index)) (third.reads (node_place level index)))
+          (sym (sum level index)) both;
+      unmarked = λ level index was gone. elim (marked_or_not mid level index) [
+        | inl still ↦ omega (arith, sum level index, next.unmarked level index still gone)
+        | inr left ↦ omega (arith, sum level index, back.unmarked level index was left)
+      ];
+      copies = λ level index copy found. elim (next.copies level index copy found) [
+        | inl was ↦ copy_on early calm tree first second third made back.more next.more level index copy sooner after (back.copies level index copy was)
+        | inr other ↦ elim other [
+          | inl came ↦ inr (inl (
+            came.0,
+            λ is. came_after made made' level index first second third before
+                (unmade_before made made' back.more back.made_more level index) (came.1 (later is)),
+          ))
+          | inr child ↦ inr (inr (child_right mid.geometry tree.geometry back.more next.more level index geometry child))
+        ]
+      ];
+    }
+
+-- of which the first makes nothing below
 pub up_on : (quiet early calm : Type 0) (from : ℕ) (Own : ℕ → ℕ → List ℕ → Type 0) (tree mid tree' : TreeView) (first second third : BusHistory) (made made' made'' : List Message) (stop : Option MemStop) →
     mid.geometry ≡ tree.geometry →
     ((place : Place) → RoseBy 0 (first.reads place) (second.reads place)) → ((place : Place) → RoseBy 0 (second.reads place) (third.reads place)) →
     (calm → early) → (calm → quiet) →
     WritesUp early from NoNode tree first made mid second made' None → WritesUp quiet from Own mid second made' tree' third made'' stop →
     WritesUp calm from Own tree first made tree' third made'' stop
+unfolding back_on
 up_on quiet early calm from Own tree mid tree' first second third made made' made'' stop geometry before after sooner later up more = record {
-  back = record {
-    more = up.back.more ++ more.back.more;
-    made_more = more.back.made_more ∙ ap (λ (messages : List Message). messages ++ more.back.more) up.back.made_more ∙ append_assoc made up.back.more more.back.more;
-    changed = λ level index block high listed. elim (Contains-append_cases up.back.more more.back.more (Node level index block) listed) [
-      | inl early ↦ elim (up.back.changed level index block high early) [
-        | inl was ↦ inl was
-        | inr child ↦ inr (child_left tree.geometry up.back.more more.back.more level index child)
-      ]
-      | inr late ↦ elim (more.back.changed level index block high late) [
-        | inl was ↦ changed_before early tree first made second up.back.more more.back.more level index block (up.back.copies level index (record { block = block; changed = true }) was)
-        | inr child ↦ inr (child_right mid.geometry tree.geometry up.back.more more.back.more level index geometry child)
-      ]
-    ];
-    once_a_copy = λ is level index high.
-        let sum : times_made level index (up.back.more ++ more.back.more) ≡ times_made level index up.back.more + times_made level index more.back.more =
-        made_on level index up.back.more more.back.more in
-        let had : ℕ = unread_count (cached_node tree level index) (last_node level index made) in
-        let has : ℕ = unread_count (cached_node tree' level index) (last_node level index made'') in
-        let both : RoseBy (times_made level index up.back.more + times_made level index more.back.more + has - (had + unwritten_in stop))
-        (first.reads (node_place level index)) (third.reads (node_place level index)) =
-        turned_on (times_made level index up.back.more) (times_made level index more.back.more) had
-        (unread_count (cached_node mid level index) (last_node level index made')) has (unwritten_in stop)
-        (first.reads (node_place level index)) (second.reads (node_place level index)) (third.reads (node_place level index))
-        (up.back.once_a_copy (sooner is) level index high) (more.back.once_a_copy (later is) level index high) in
-        subst (λ (k : ℕ). RoseBy (k + has - (had + unwritten_in stop)) (first.reads (node_place level index)) (third.reads (node_place level index))) (sym sum) both;
-    copies = λ level index copy found. elim (more.back.copies level index copy found) [
-      | inl was ↦ copy_on early calm tree first second third made up.back.more more.back.more level index copy sooner after (up.back.copies level index copy was)
-      | inr other ↦ elim other [
-        | inl came ↦ inr (inl (
-          came.0,
-          λ is. came_after made made' level index first second third before
-              (unmade_before made made' up.back.more up.back.made_more level index) (came.1 (later is)),
-        ))
-        | inr child ↦ inr (inr (child_right mid.geometry tree.geometry up.back.more more.back.more level index geometry child))
-      ]
-    ];
-  };
+  back = back_on quiet early calm from tree mid tree' first second third made made' made'' stop geometry before after sooner later up.back more.back;
   own = λ level index block low listed. elim (Contains-append_cases up.back.more more.back.more (Node level index block) listed) [
-    | inl early ↦ absurd (up.own level index block low early)
+    | inl early_listed ↦ absurd (up.own level index block low early_listed)
     | inr late ↦ more.own level index block low late
   ];
   once = λ level index low.
@@ -460,8 +523,9 @@ pub up_victim : (quiet : Type 0) (level : ℕ) (way : Way) (tree mid tree' : Tre
     (stop ≡ None → cached_node tree' level way.place ≡ None) →
     ((copy : CachedNode) → cached_node tree' level way.place ≡ Some copy → cached_node mid level way.place ≡ Some copy) →
     ((other at : ℕ) → ¬ (SameNode level way.place other at) → cached_node tree' other at ≡ cached_node mid other at) →
+    (way.changed ≡ true → (IsMarked mid level way.place → IsMarked tree' level way.place) ⊎ (times_made level way.place made < times_made level way.place made')) →
     WritesUp quiet (level + 1) (IsVictim level way stop) tree old made mid new made' stop → WritesUp quiet level NoNode tree old made tree' new made' stop
-up_victim quiet level way tree mid tree' old new made made' stop stays held beside left fewer same up =
+up_victim quiet level way tree mid tree' old new made made' stop stays held beside left fewer same written up =
     let before : (other at : ℕ) (copy : CachedNode) → cached_node tree' other at ≡ Some copy → cached_node mid other at ≡ Some copy =
     λ other at copy found. elim (same_or_not level way.place other at) [
       | inr apart ↦ sym (same other at apart) ∙ found
@@ -492,6 +556,15 @@ up_victim quiet level way tree mid tree' old new made made' stop stays held besi
           (not_made level at up.back.more (λ block listed. apart (refl, (up.own level at block (omega arith) listed).0.1))) (stays (node_place level at))
           (λ copied. inl (λ (none : cached_node tree level at ≡ None). copied (same level at apart ∙ beside at ∙ none)))
     ] in
+    let own_made : IsMarked tree level way.place → ¬ (IsMarked tree' level way.place) → 0 < times_made level way.place up.back.more =
+    λ was gone.
+    let mark : Some way.changed ≡ Some true = sym (ap (option_map (λ (copy : CachedNode). copy.changed)) held) ∙ was in
+    let changed : way.changed ≡ true = cc in
+    elim (written changed) [
+      | inl kept ↦ absurd (gone (kept (mark_same tree mid level way.place (beside way.place) was)))
+      | inr more ↦
+          omega (arith, more, ap (λ (m : List Message). times_made level way.place m) up.back.made_more, made_on level way.place made up.back.more)
+    ] in
     record {
       back = record {
         more = up.back.more;
@@ -510,6 +583,13 @@ up_victim quiet level way tree mid tree' old new made made' stop stays held besi
               let here : level ≡ other = omega (arith, near, high) in
               subst (λ (k : ℕ). RoseBy (times_made k at up.back.more + unread_count (cached_node tree' k at) (last_node k at made')
               - (unread_count (cached_node tree k at) (last_node k at made) + unwritten_in stop)) (old.reads (node_place k at)) (new.reads (node_place k at))) here (all_level at)
+        ];
+        unmarked = λ other at was gone. elim (same_or_not level way.place other at) [
+          | inr apart ↦ up.back.unmarked other at was (λ marked. gone (mark_same mid tree' other at (same other at apart) marked))
+          | inl here ↦
+              subst (λ (k : ℕ). 0 < times_made k at up.back.more) (sym here.0) (subst (λ (i : ℕ). 0 < times_made level i up.back.more) (sym here.1)
+              (own_made (subst (λ (i : ℕ). IsMarked tree level i) here.1 (subst (λ (k : ℕ). IsMarked tree k at) here.0 was))
+              (λ marked. gone (subst (λ (k : ℕ). IsMarked tree' k at) (sym here.0) (subst (λ (i : ℕ). IsMarked tree' level i) (sym here.1) marked)))))
         ];
         copies = λ other at copy found. up.back.copies other at copy (before other at copy found);
       };

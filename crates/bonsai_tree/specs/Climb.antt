@@ -15,8 +15,7 @@ use Rattle.sec_base.specs.declared.stop.MemStop.TheVariants.{Tampered, Spent, No
 use Rattle.cache_set.specs.declared.way.Way.{Way}
 use Rattle.bus_model.specs.BusHistory.{BusHistory}
 use Rattle.tag_engine.specs.TagEngine.{TagEngineView}
-use Rattle.checked_bus.specs.Accesses.{WritesMessages}
-use Rattle.checked_bus.specs.Steps.{IsAccounted, Moves, SameLines, unwritten_in}
+use Rattle.checked_bus.specs.Steps.{IsAccounted, Moves, SameLines}
 use Rattle.bonsai_tree.specs.Node.{level_blocks, times_made}
 use Rattle.bonsai_tree.specs.NodeCache.{AreNodeCaches, level_cache, node_sets}
 use Rattle.bonsai_tree.specs.Tree.{HoldsTree, IsNodeFrom, NodesAreMade, NodesHoldLast, SlotsAreTags, TreeView, CameBeside, UnmadeAreUnread, WasReadUp, WritesBack, cached_node}
@@ -47,10 +46,9 @@ pub record Climbs {T : Type 0} (tags : TagEngineView T → Message → List ℕ)
   pub found : engine.evidence ≡ None → (evidence : Evidence) → engine'.evidence ≡ Some evidence →
       IsNodeFrom tree.geometry from (evidence_place evidence)
   pub unspent : (spent : ℕ) → stop ≢ Some (Spent spent)
-  -- what was made was written
+  -- what was made took its room
   pub room : engine.room ≤ engine'.room + length moves.more
   pub no_rise : engine'.room ≤ engine.room
-  pub writes : WritesMessages old new (length moves.more) (unwritten_in stop)
   pub made_blocks : NodesAreMade tree.geometry engine.made old.written → NodesAreMade tree.geometry engine'.made new.written
   pub last_blocks : stop ≢ Some NoMemory → NodesHoldLast tree.geometry engine.made old.written → NodesHoldLast tree.geometry engine'.made new.written
   -- slots of nodes that were made have the tags of their children's last messages, or zeros

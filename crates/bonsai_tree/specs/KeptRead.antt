@@ -2,7 +2,7 @@
 -- private contracts alone.
 use Rattle.std.specs.Prelude.{◌≡◌, ◌≢◌, ◌⊎◌, ℕ, ◌+◌, ◌≤◌, List, Some, None, Result, Ok, Err, IfOk}
 use Rattle.std.specs.Result.{result_err}
-use Rattle.sec_base.specs.Count.{Rose}
+use Rattle.sec_base.specs.Count.{Rose, more_by}
 use Rattle.sec_base.specs.Evidence.{evidence_place}
 use Rattle.sec_base.specs.LastMessage.{last_node}
 use Rattle.sec_base.specs.declared.counter.Counter.{Counter}
@@ -16,7 +16,6 @@ use Rattle.sec_base.specs.declared.stop.MemStop.{MemStop}
 use Rattle.sec_base.specs.declared.stop.MemStop.TheVariants.{Tampered, Spent, NoMemory}
 use Rattle.bus_model.specs.BusHistory.{BusHistory}
 use Rattle.tag_engine.specs.TagEngine.{TagEngineView}
-use Rattle.checked_bus.specs.Accesses.{AreCounted}
 use Rattle.checked_bus.specs.Steps.{IsAccounted, IsCurrentNode, Moves, SameLines}
 use Rattle.bonsai_tree.specs.Node.{block_or_zeros, no_block, no_tag}
 use Rattle.bonsai_tree.specs.Tree.{NodeCame, UnmadeAreUnread}
@@ -34,15 +33,16 @@ pub record ReadsKept {T : Type 0} (tags : TagEngineView T → Message → List �
   pub made : engine'.made ≡ engine.made
   pub room : engine'.room ≡ engine.room
   pub written : new.written ≡ old.written
-  pub counted : AreCounted old new 0
   pub most : new.accesses ≤ old.accesses + 1
+  pub one : new.reads (node_place level index) ≤ old.reads (node_place level index) + 1
   -- what is answered has the tag that is kept; where that is right, it is the node's last block, or zeros where it has none
   pub checked : IfOk result (λ block. ((tag ≡ no_tag) × (block ≡ no_block)) ⊎ (tags engine (Node level index block) ≡ tag))
   pub block : IsKeptNode (tags engine) engine.made old.written level index tag → engine'.evidence ≡ None →
       IfOk result (λ block. block ≡ block_or_zeros (last_node level index engine.made))
-  -- nothing is done where no tag is kept; else its place is read, and that of no other node
+  -- nothing is done where no tag is kept; else its place is read once, and that of no other node
   pub unasked : tag ≡ no_tag → (new ≡ old) × (engine' ≡ engine) × (result ≡ Ok no_block)
-  pub asked : tag ≢ no_tag → result_err result ≢ Some NoMemory → Rose (old.reads (node_place level index)) (new.reads (node_place level index))
+  pub asked : tag ≢ no_tag → result_err result ≢ Some NoMemory →
+      new.reads (node_place level index) ≡ more_by 1 (old.reads (node_place level index))
   pub alone : (other at : ℕ) → ¬ ((other ≡ level) × (at ≡ index)) → new.reads (node_place other at) ≡ old.reads (node_place other at)
   -- where the tag is right, the node came, and none was read that was never made
   pub came : IsKeptNode (tags engine) engine.made old.written level index tag → result_err result ≢ Some NoMemory →

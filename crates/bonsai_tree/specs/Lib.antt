@@ -1,6 +1,8 @@
 pub mod Node
 pub mod NodeCache
 pub mod Tree
+pub mod NodesHad
+pub mod TreeSteps
 pub mod TreeCall
 pub mod Writing
 pub mod KeptRead

@@ -2,7 +2,7 @@
 -- were made and what stands outside.
 use Rattle.std.specs.Prelude.{◌≡◌, ◌⊎◌, ℕ, ◌+◌, ◌-◌, ◌/◌, ◌%◌, ◌^◌, ◌<◌, ◌≤◌, List, length, false, nat_lt, if◌then◌else◌, Option, Some, None, Contains, Result, Ok, Err, ◌≢◌, ◌++◌, ◌∷◌, true}
 use Rattle.std.specs.Option.{option_map}
-use Rattle.sec_base.specs.Count.{Rose, RoseBy}
+use Rattle.sec_base.specs.Count.{Rose, RoseBy, more_by}
 use Rattle.sec_base.specs.Geometry.{GeometryView, IsNode, arity, child, parent, slot}
 use Rattle.sec_base.specs.LastMessage.{last_node}
 use Rattle.sec_base.specs.Place.{zeros_of}
@@ -104,10 +104,10 @@ abbrev pub NodeCame : List Message → ℕ → ℕ → BusHistory → BusHistory
 NodeCame made level index old new =
     (last_node level index made ≡ None) ⊎ Rose (old.reads (node_place level index)) (new.reads (node_place level index))
 
--- the place of a page's block was read exactly where a tag is kept of it
+-- the place of a page's block was read exactly where a tag is kept of it, once
 abbrev pub IsReadByTag : List ℕ → ℕ → BusHistory → BusHistory → Type 0
 IsReadByTag tag page old new = ((tag ≡ no_tag) × (new.reads (node_place 0 page) ≡ old.reads (node_place 0 page)))
-    ⊎ ((tag ≢ no_tag) × Rose (old.reads (node_place 0 page)) (new.reads (node_place 0 page)))
+    ⊎ ((tag ≢ no_tag) × (new.reads (node_place 0 page) ≡ more_by 1 (old.reads (node_place 0 page))))
 
 -- no place was read of a node that was never made
 abbrev pub UnmadeAreUnread : BusHistory → List Message → BusHistory → Type 0
@@ -184,6 +184,8 @@ pub record WritesBack (quiet : Type 0) (from : ℕ) (tree : TreeView) (old : Bus
       RoseBy (times_made level index more + unread_count (cached_node tree' level index) (last_node level index made')
       - (unread_count (cached_node tree level index) (last_node level index made) + unwritten_in stop))
       (old.reads (node_place level index)) (new.reads (node_place level index))
+  -- a changed copy that is gone, or is not changed any more, was made
+  pub unmarked : (level index : ℕ) → IsMarked tree level index → ¬ IsMarked tree' level index → 0 < times_made level index more
   -- a copy is as it was, or came and is not changed, unless a child of its node was made
   pub copies : (level index : ℕ) (copy : CachedNode) → cached_node tree' level index ≡ Some copy →
       IsCopyAfter quiet tree old made new more level index copy

@@ -5,7 +5,6 @@ use Rattle.sec_base.specs.declared.counter.Counter.{Counter}
 use Rattle.sec_base.specs.declared.message.Message.{Message}
 use Rattle.bus_model.specs.BusHistory.{BusHistory}
 use Rattle.tag_engine.specs.TagEngine.{TagEngineView}
-use Rattle.checked_bus.specs.Accesses.{WritesMessages}
 use Rattle.checked_bus.specs.Steps.{IsAccounted, Moves, SameLines}
 use Rattle.bonsai_tree.specs.Tree.{NodesAreMade, NodesHoldLast}
 
@@ -17,7 +16,6 @@ pub record WritesNodes {T : Type 0} (tags : TagEngineView T → Message → List
   pub evidence : engine'.evidence ≡ engine.evidence
   pub room : engine.room ≤ engine'.room + length moves.more
   pub reads : new.reads ≡ old.reads
-  pub writes : WritesMessages old new (length moves.more) unwritten
   pub made_blocks : NodesAreMade geometry engine.made old.written → NodesAreMade geometry engine'.made new.written
   pub last_blocks : unwritten ≡ 0 → NodesHoldLast geometry engine.made old.written → NodesHoldLast geometry engine'.made new.written
   pub honest : (used more : List (ℕ × Counter)) → IsAccounted (tags engine) used engine.made old None engine.evidence →

@@ -1,8 +1,9 @@
 // The copies of nodes on the chip.
 ghost use Rattle.std.specs.Prelude.{true, false, ◌≡◌, ◌<◌, ◌≤◌, ◌%◌, ◌↔◌, ℕ, [], Some, None, IfOk, IfSome, IsTrue, IsSome, length};
 ghost use Rattle.sec_base.specs.Geometry.{IsNode};
-ghost use Rattle.cache_set.specs.CacheSet.{HasRoom};
-ghost use Rattle.cache_set.specs.Cache.{copy_at, set_at};
+ghost use Rattle.cache_set.specs.Bringing.{with_changed, with_new};
+ghost use Rattle.cache_set.specs.CacheSet.{HasRoom, touched, without};
+ghost use Rattle.cache_set.specs.Cache.{copy_at, set_at, victim_for, with_set};
 ghost use Rattle.bonsai_tree.specs.NodeCache.{AreEmpty, AreNodeCaches, IsLatestNode, OtherLevels, OtherNodes, copied_nodes, level_cache, node_way};
 
 use cache_set::{Cache, Way};
@@ -56,6 +57,9 @@ impl NodeCache {
         ensures geometry { self.new.geometry ≡ self.old.geometry }
         ensures nodes { AreNodeCaches self.new.geometry self.new.caches }
         ensures held { IsTrue result ↔ IsSome (node_way self.old.caches level index) }
+        ensures after { level_cache self.new.caches level
+            ≡ with_set (level_cache self.old.caches level) index
+            (touched index (set_at (level_cache self.old.caches level) index)) }
         ensures latest { IsTrue result → IsLatestNode self.new.caches level index }
         ensures absent { result ≡ false → node_way self.old.caches level index ≡ None }
         ensures same { (other at : ℕ) → node_way self.new.caches other at
@@ -82,6 +86,8 @@ impl NodeCache {
         requires latest { IsLatestNode self.old.caches level index }
         ensures geometry { self.new.geometry ≡ self.old.geometry }
         ensures nodes { AreNodeCaches self.new.geometry self.new.caches }
+        ensures after { level_cache self.new.caches level
+            ≡ with_changed (level_cache self.old.caches level) index block }
         ensures changed { node_way self.new.caches level index
             ≡ Some (record { place = index; changed = true; copy = block }) }
         ensures same { OtherNodes level index self.old.caches self.new.caches }
@@ -95,6 +101,7 @@ impl NodeCache {
         requires above { 0 < level }
         requires inside { level ≤ self.now.geometry.levels }
         requires absent { node_way self.now.caches level index ≡ None }
+        ensures victim { result ≡ victim_for (level_cache self.now.caches level) index }
         ensures room { result ≡ None → HasRoom (set_at (level_cache self.now.caches level) index) }
         ensures way { IfSome result (λ way. node_way self.now.caches level way.place ≡ Some way) }
         ensures node { IfSome result (λ way. IsNode self.now.geometry level way.place) }
@@ -111,6 +118,9 @@ impl NodeCache {
         requires held { IsSome (node_way self.old.caches level index) }
         ensures geometry { self.new.geometry ≡ self.old.geometry }
         ensures nodes { AreNodeCaches self.new.geometry self.new.caches }
+        ensures after { level_cache self.new.caches level
+            ≡ with_set (level_cache self.old.caches level) index
+            (without index (set_at (level_cache self.old.caches level) index)) }
         ensures removed { node_way self.new.caches level index ≡ None }
         ensures same { OtherNodes level index self.old.caches self.new.caches }
         ensures others { OtherLevels level self.old.caches self.new.caches }
@@ -128,6 +138,8 @@ impl NodeCache {
         requires room { HasRoom (set_at (level_cache self.old.caches level) index) }
         ensures geometry { self.new.geometry ≡ self.old.geometry }
         ensures nodes { AreNodeCaches self.new.geometry self.new.caches }
+        ensures after { level_cache self.new.caches level
+            ≡ with_new (level_cache self.old.caches level) index block }
         ensures latest { IsLatestNode self.new.caches level index }
         ensures put { node_way self.new.caches level index
             ≡ Some (record { place = index; changed = false; copy = block }) }

@@ -19,8 +19,9 @@ ghost use Rattle.tag_engine.specs.TagEngine.{tags_of};
 ghost use Rattle.checked_bus.specs.Makes.{Makes};
 ghost use Rattle.bonsai_tree.specs.KeptRead.{IsKeptNode, ReadsKept};
 ghost use Rattle.bonsai_tree.specs.Climb.{Climbs, IsBlockOf, IsVictim, MakesRoom, NoNode, WritesUp};
-ghost use Rattle.bonsai_tree.specs.Node.{CachedNode, block_or_zeros, level_blocks, no_tag, page_block, with_tag};
+ghost use Rattle.bonsai_tree.specs.Node.{CachedNode, block_or_zeros, level_blocks, no_tag, page_block, times_made, with_tag};
 ghost use Rattle.bonsai_tree.specs.NodeCache.{AreNodeCaches, IsLatestNode, OtherLevels, OtherNodes, level_cache, node_way};
+ghost use Rattle.bonsai_tree.specs.NodesHad.{HadAbove, IsAboveMade, MayClimb, NodeAdded, NodesHad, RoomHad, SameOrders, since};
 ghost use Rattle.bonsai_tree.specs.TreeCall.{TreeCall};
 ghost use Rattle.bonsai_tree.specs.Tree.{EndsQuietly, GoesOutFor, HoldsTree, IsFetchPlace, IsKept, IsMarked, IsReadByTag, IsNodeFrom, NodeCame, PathWasRead, SamePages, cached_node, cached_nodes, current_block, kept_tag, present_accesses, want_of};
 
@@ -135,12 +136,15 @@ impl Tree {
         ensures parent { OnOk result (cached_node self.new 1 (parent self.old.geometry 0 page).1
             ≢ None) }
 
-        // With evidence or without, the page's block is read exactly where a tag is kept of it, and no other page's is.
+        // With evidence or without, the page's block is read exactly where a tag is kept of it, no other page's is, and it is read
+        // once at most where the call is refused too.
         ensures by_tag { OnOk result (IsReadByTag (kept_tag self.new tags.new.made 0 page) page
             (B.history bus.old) (B.history bus.new)) }
         ensures alone { (other : ℕ) → other ≢ page →
             (B.history bus.new).reads (node_place 0 other)
             ≡ (B.history bus.old).reads (node_place 0 other) }
+        ensures block_once { (B.history bus.new).reads (node_place 0 page)
+            ≤ (B.history bus.old).reads (node_place 0 page) + 1 }
 
         // Where there is no evidence, the nodes of its path were read, up to the lowest one with a copy, but those that were
         // never made.
@@ -274,6 +278,9 @@ impl Tree {
             tags.new.evidence ≡ None →
             OnOk result (GoesOutFor self.old (B.history bus.old) tags.old.made self.new
             (B.history bus.new)) }
+        ensures had { OnOk result (NodesHad
+            (MayClimb self.old.geometry level index (since tags.old.made tags.new.made))
+            level self.old (B.history bus.old) self.new (B.history bus.new)) }
         ensures makes { (accesses : List Access) × B.moved bus.old accesses bus.new
             × Makes (tags_of T.data_tag_of T.node_tag_of tags.old)
             (λ used. HoldsTree (tags_of T.data_tag_of T.node_tag_of) self.old (B.history bus.old)
@@ -323,6 +330,9 @@ impl Tree {
             tags.new.evidence ≡ None →
             OnOk result (MakesRoom level index self.old (B.history bus.old) tags.old.made self.new
             (B.history bus.new)) }
+        ensures had { OnOk result (RoomHad
+            (IsAboveMade self.old.geometry (since tags.old.made tags.new.made))
+            level index self.old (B.history bus.old) self.new (B.history bus.new)) }
         ensures makes { (accesses : List Access) × B.moved bus.old accesses bus.new
             × Makes (tags_of T.data_tag_of T.node_tag_of tags.old)
             (λ used. HoldsTree (tags_of T.data_tag_of T.node_tag_of) self.old (B.history bus.old)
@@ -369,6 +379,9 @@ impl Tree {
         ensures few { length tags.new.made
             ≤ length tags.old.made + (present_accesses self.old.geometry.levels (level + 1) + 1) }
         ensures copies { level_cache self.new.caches level ≡ level_cache self.old.caches level }
+        ensures written { victim.now.changed ≡ true →
+            OnOk result (times_made level victim.now.place tags.old.made
+            < times_made level victim.now.place tags.new.made) }
         ensures out_for { HoldsTree (tags_of T.data_tag_of T.node_tag_of) self.old
             (B.history bus.old) tags.old →
             tags.new.evidence ≡ None →
@@ -378,6 +391,9 @@ impl Tree {
             (B.history bus.new) tags.new →
             tags.new.evidence ≡ None →
             victim.now.copy ≡ block_or_zeros (last_node level victim.now.place tags.new.made)) }
+        ensures had { OnOk result (HadAbove
+            (IsAboveMade self.old.geometry (since tags.old.made tags.new.made))
+            level self.old (B.history bus.old) self.new (B.history bus.new)) }
         ensures makes { (accesses : List Access) × B.moved bus.old accesses bus.new
             × Makes (tags_of T.data_tag_of T.node_tag_of tags.old)
             (λ used. HoldsTree (tags_of T.data_tag_of T.node_tag_of) self.old (B.history bus.old)
@@ -430,6 +446,9 @@ impl Tree {
             (B.history bus.new)) }
         ensures some { 0 < self.old.geometry.levels }
         ensures nodes { AreNodeCaches self.new.geometry self.new.caches }
+        ensures had { OnOk result (HadAbove
+            (MayClimb self.old.geometry level index (since tags.old.made tags.new.made))
+            level self.old (B.history bus.old) self.new (B.history bus.new)) }
         ensures makes { (accesses : List Access) × B.moved bus.old accesses bus.new
             × Makes (tags_of T.data_tag_of T.node_tag_of tags.old)
             (λ used. HoldsTree (tags_of T.data_tag_of T.node_tag_of) self.old (B.history bus.old)
@@ -478,6 +497,8 @@ impl Tree {
             (B.history bus.new)) }
         ensures kept { (other at : ℕ) → cached_node self.old other at ≢ None →
             cached_node self.new other at ≢ None }
+        ensures had { OnOk result (NodeAdded level index self.old (B.history bus.old) self.new
+            (B.history bus.new)) }
         ensures makes { (accesses : List Access) × B.moved bus.old accesses bus.new
             × Makes (tags_of T.data_tag_of T.node_tag_of tags.old)
             (λ used. HoldsTree (tags_of T.data_tag_of T.node_tag_of) self.old (B.history bus.old)
@@ -538,6 +559,7 @@ impl Tree {
             ≡ (B.history bus.old).written (node_place level at) }
         ensures quiet { tags.new.evidence ≡ tags.old.evidence }
         ensures reads { (B.history bus.new).reads ≡ (B.history bus.old).reads }
+        ensures orders { SameOrders self.old self.new }
         ensures makes { (accesses : List Access) × B.moved bus.old accesses bus.new
             × Makes (tags_of T.data_tag_of T.node_tag_of tags.old)
             (λ used. Unit {0})
@@ -589,6 +611,7 @@ impl Tree {
         ensures same { OtherNodes (level + 1) (parent self.old.geometry level index).1
             self.old.caches self.new.caches }
         ensures others { OtherLevels (level + 1) self.old.caches self.new.caches }
+        ensures orders { SameOrders self.old self.new }
     {
         let geometry = self.nodes.geometry();
         let (above, at) = geometry.parent(level, index);

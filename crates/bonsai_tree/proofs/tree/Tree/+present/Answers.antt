@@ -1,23 +1,33 @@
-use Rattle.std.proofs.Common.{◌≡◌, ◌≢◌, inl, inr, ◌+◌, ℕ, true, List, length, Option, Some, None, refl, ap, sym, ◌∙◌, subst, arith, rules, [], ◌++◌}
+use Rattle.std.proofs.Common.{◌≡◌, ◌≢◌, inl, inr, ◌+◌, ◌/◌, ℕ, true, List, length, Option, Some, None, IsSome, ◌≤◌, refl, ap, sym, ◌∙◌, subst, arith, rules, [], ◌∷◌, ◌++◌}
 use Rattle.std.specs.Option.{option_map}
 use Rattle.std.specs.Result.{result_err}
+use Rattle.std.proofs.lemmas.List.Elements.{Contains-push}
+use Rattle.sec_base.specs.Geometry.{GeometryView, arity}
+use Rattle.sec_base.specs.declared.message.Message.{Message}
+use Rattle.sec_base.specs.declared.message.Message.TheVariants.{Node}
+use Rattle.sec_base.specs.declared.place.Place.{Place}
+use Rattle.sec_base.specs.declared.place.Place.TheVariants.{Node as node_place}
 use Rattle.sec_base.specs.declared.stop.MemStop.{MemStop}
 use Rattle.sec_base.specs.declared.stop.MemStop.TheVariants.{NoMemory}
 use Rattle.sec_base.proofs.Results.{was_none}
 use Rattle.cache_set.specs.declared.way.Way.{Way}
-use Rattle.cache_set.specs.Cache.{way_at}
+use Rattle.cache_set.specs.CacheSet.{touched, without}
+use Rattle.cache_set.specs.Cache.{set_at, victim_for, way_at, with_set}
 use Rattle.tag_engine.specs.TagEngine.{tags_of}
 use Rattle.checked_bus.specs.Makes.{Makes}
 use Rattle.checked_bus.proofs.Makes.{makes_not}
 use Rattle.bonsai_tree.specs.Climb.{Climbs, IsBlockOf, IsVictim, NoNode, WritesUp}
-use Rattle.bonsai_tree.specs.NodeCache.{AreNodeCaches, copy_of, node_way}
+use Rattle.bonsai_tree.specs.NodeCache.{AreNodeCaches, copy_of, level_cache, node_way}
+use Rattle.bonsai_tree.specs.NodesHad.{MayClimb, NodesHad, since}
 use Rattle.bonsai_tree.specs.Tree.{EndsQuietly, TreeView, HoldsTree}
 use Rattle.bonsai_tree.proofs.Climbs.{climbs_not, climbs_on, climbs_up, unmade_before}
 use Rattle.bonsai_tree.proofs.NodeCalls.{climbs_dropped, climbs_touched}
 use Rattle.bonsai_tree.proofs.Accesses.{present_first, present_second}
 use Rattle.bonsai_tree.proofs.Views.{all_as, geometry_as, not_held, others_as, root_as, same_as, tree_of}
 use Rattle.bonsai_tree.proofs.OutFor.{on_ok, out_came, out_kept, out_on, room_kept, room_made}
-use Rattle.bonsai_tree.proofs.WrittenBack.{up_as, up_climbed, up_same, up_victim, up_wider}
+use Rattle.bonsai_tree.proofs.WrittenBack.{made_more, up_as, up_climbed, up_same, up_victim, up_wider}
+use Rattle.bonsai_tree.proofs.NodesJoined.{above_wider, climb_here, climb_made, climb_parent, climb_wider, made_wider, nodes_none, nodes_wider, room_wider, since_after, since_before, since_first, since_second}
+use Rattle.bonsai_tree.proofs.NodesHad.{had_came, had_one, had_still, removed_here, room_here, touched_here, touched_same, unlisted}
 use Rattle.bonsai_tree.proofs.TreeMakes.{makes_after, makes_climbed, makes_wrote}
 use Rattle.bonsai_tree.proofs.tree.Tree.+present.Goals as goal
 
@@ -60,11 +70,7 @@ make_room-returns-in_err-write_back-clause-climbs g t c =
 
 pub present-returns-then-touch-clause-climbs : goal.present-returns-then-touch-clause-climbs
 present-returns-then-touch-clause-climbs g t c =
-    climbs_touched g.T.Tagger.data_tag_of g.T.Tagger.node_tag_of c.args.level c.args.self.now (tree_of c.self.inside.root c.touch.new.self) (g.B.Bus.history c.args.bus.now) c.args.tags.now
-    (geometry_as c.args.self.now c.self.inside.root c.self.inside.nodes c.touch.new.self c.self.view_is c.if-touch.ensures.geometry)
-    (root_as c.args.self.now c.self.inside.root c.self.inside.nodes c.touch.new.self c.self.view_is) c.if-touch.ensures.nodes
-    (others_as c.args.self.now c.self.inside.root c.self.inside.nodes c.touch.new.self c.self.view_is c.args.level c.if-touch.ensures.others)
-    (all_as c.args.self.now c.self.inside.root c.self.inside.nodes c.touch.new.self c.self.view_is c.if-touch.ensures.same)
+    climbs_touched g.T.Tagger.data_tag_of g.T.Tagger.node_tag_of c.args.level c.args.self.now c.self.inside.root c.self.inside.nodes c.touch.new.self (g.B.Bus.history c.args.bus.now) c.args.tags.now c.self.view_is c.if-touch.ensures.geometry c.if-touch.ensures.nodes c.if-touch.ensures.others c.if-touch.ensures.same
 
 pub present-returns-in_err-make_room-clause-climbs : goal.present-returns-in_err-make_room-clause-climbs
 present-returns-in_err-make_room-clause-climbs g t c =
@@ -73,9 +79,7 @@ present-returns-in_err-make_room-clause-climbs g t c =
     subst (λ (s : Option MemStop). Climbs (tags_of g.T.Tagger.data_tag_of g.T.Tagger.node_tag_of) c.args.level c.args.self.now
     (g.B.Bus.history c.args.bus.now) c.args.tags.now c.make_room.new.self (g.B.Bus.history c.make_room.new.bus) c.make_room.new.tags s) (sym stop)
     (climbs_on g.T.Tagger.data_tag_of g.T.Tagger.node_tag_of c.args.level c.args.self.now (tree_of c.self.inside.root c.touch.new.self) c.make_room.new.self (g.B.Bus.history c.args.bus.now) (g.B.Bus.history c.args.bus.now) (g.B.Bus.history c.make_room.new.bus) c.args.tags.now c.args.tags.now c.make_room.new.tags (Some why)
-    (climbs_touched g.T.Tagger.data_tag_of g.T.Tagger.node_tag_of c.args.level c.args.self.now (tree_of c.self.inside.root c.touch.new.self) (g.B.Bus.history c.args.bus.now) c.args.tags.now
-    (geometry_as c.args.self.now c.self.inside.root c.self.inside.nodes c.touch.new.self c.self.view_is c.if-touch.ensures.geometry) (root_as c.args.self.now c.self.inside.root c.self.inside.nodes c.touch.new.self c.self.view_is) c.if-touch.ensures.nodes
-    (others_as c.args.self.now c.self.inside.root c.self.inside.nodes c.touch.new.self c.self.view_is c.args.level c.if-touch.ensures.others) (all_as c.args.self.now c.self.inside.root c.self.inside.nodes c.touch.new.self c.self.view_is c.if-touch.ensures.same))
+    (climbs_touched g.T.Tagger.data_tag_of g.T.Tagger.node_tag_of c.args.level c.args.self.now c.self.inside.root c.self.inside.nodes c.touch.new.self (g.B.Bus.history c.args.bus.now) c.args.tags.now c.self.view_is c.if-touch.ensures.geometry c.if-touch.ensures.nodes c.if-touch.ensures.others c.if-touch.ensures.same)
     c.in_err-make_room.ensures.climbs)
 
 pub present-returns-in_err-parent_present-clause-climbs : goal.present-returns-in_err-parent_present-clause-climbs
@@ -86,9 +90,7 @@ present-returns-in_err-parent_present-clause-climbs g t c =
     (g.B.Bus.history c.args.bus.now) c.args.tags.now c.parent_present.new.self (g.B.Bus.history c.parent_present.new.bus) c.parent_present.new.tags s) (sym stop)
     (climbs_on g.T.Tagger.data_tag_of g.T.Tagger.node_tag_of c.args.level c.args.self.now c.make_room.new.self c.parent_present.new.self (g.B.Bus.history c.args.bus.now) (g.B.Bus.history c.make_room.new.bus) (g.B.Bus.history c.parent_present.new.bus) c.args.tags.now c.make_room.new.tags c.parent_present.new.tags (Some why)
     (climbs_on g.T.Tagger.data_tag_of g.T.Tagger.node_tag_of c.args.level c.args.self.now (tree_of c.self.inside.root c.touch.new.self) c.make_room.new.self (g.B.Bus.history c.args.bus.now) (g.B.Bus.history c.args.bus.now) (g.B.Bus.history c.make_room.new.bus) c.args.tags.now c.args.tags.now c.make_room.new.tags None
-    (climbs_touched g.T.Tagger.data_tag_of g.T.Tagger.node_tag_of c.args.level c.args.self.now (tree_of c.self.inside.root c.touch.new.self) (g.B.Bus.history c.args.bus.now) c.args.tags.now
-    (geometry_as c.args.self.now c.self.inside.root c.self.inside.nodes c.touch.new.self c.self.view_is c.if-touch.ensures.geometry) (root_as c.args.self.now c.self.inside.root c.self.inside.nodes c.touch.new.self c.self.view_is) c.if-touch.ensures.nodes
-    (others_as c.args.self.now c.self.inside.root c.self.inside.nodes c.touch.new.self c.self.view_is c.args.level c.if-touch.ensures.others) (all_as c.args.self.now c.self.inside.root c.self.inside.nodes c.touch.new.self c.self.view_is c.if-touch.ensures.same))
+    (climbs_touched g.T.Tagger.data_tag_of g.T.Tagger.node_tag_of c.args.level c.args.self.now c.self.inside.root c.self.inside.nodes c.touch.new.self (g.B.Bus.history c.args.bus.now) c.args.tags.now c.self.view_is c.if-touch.ensures.geometry c.if-touch.ensures.nodes c.if-touch.ensures.others c.if-touch.ensures.same)
     c.in_ok-make_room.ensures.climbs)
     (climbs_up g.T.Tagger.data_tag_of g.T.Tagger.node_tag_of c.args.level (c.args.level + 1) c.make_room.new.self c.parent_present.new.self (g.B.Bus.history c.make_room.new.bus) (g.B.Bus.history c.parent_present.new.bus) c.make_room.new.tags c.parent_present.new.tags (Some why) (omega arith) c.in_err-parent_present.ensures.climbs))
 
@@ -97,9 +99,7 @@ present-returns-clause-climbs g t c =
     climbs_on g.T.Tagger.data_tag_of g.T.Tagger.node_tag_of c.args.level c.args.self.now c.parent_present.new.self c.read_in.new.self (g.B.Bus.history c.args.bus.now) (g.B.Bus.history c.parent_present.new.bus) (g.B.Bus.history c.read_in.new.bus) c.args.tags.now c.parent_present.new.tags c.read_in.new.tags (result_err c.read_in.result)
     (climbs_on g.T.Tagger.data_tag_of g.T.Tagger.node_tag_of c.args.level c.args.self.now c.make_room.new.self c.parent_present.new.self (g.B.Bus.history c.args.bus.now) (g.B.Bus.history c.make_room.new.bus) (g.B.Bus.history c.parent_present.new.bus) c.args.tags.now c.make_room.new.tags c.parent_present.new.tags None
     (climbs_on g.T.Tagger.data_tag_of g.T.Tagger.node_tag_of c.args.level c.args.self.now (tree_of c.self.inside.root c.touch.new.self) c.make_room.new.self (g.B.Bus.history c.args.bus.now) (g.B.Bus.history c.args.bus.now) (g.B.Bus.history c.make_room.new.bus) c.args.tags.now c.args.tags.now c.make_room.new.tags None
-    (climbs_touched g.T.Tagger.data_tag_of g.T.Tagger.node_tag_of c.args.level c.args.self.now (tree_of c.self.inside.root c.touch.new.self) (g.B.Bus.history c.args.bus.now) c.args.tags.now
-    (geometry_as c.args.self.now c.self.inside.root c.self.inside.nodes c.touch.new.self c.self.view_is c.if-touch.ensures.geometry) (root_as c.args.self.now c.self.inside.root c.self.inside.nodes c.touch.new.self c.self.view_is) c.if-touch.ensures.nodes
-    (others_as c.args.self.now c.self.inside.root c.self.inside.nodes c.touch.new.self c.self.view_is c.args.level c.if-touch.ensures.others) (all_as c.args.self.now c.self.inside.root c.self.inside.nodes c.touch.new.self c.self.view_is c.if-touch.ensures.same))
+    (climbs_touched g.T.Tagger.data_tag_of g.T.Tagger.node_tag_of c.args.level c.args.self.now c.self.inside.root c.self.inside.nodes c.touch.new.self (g.B.Bus.history c.args.bus.now) c.args.tags.now c.self.view_is c.if-touch.ensures.geometry c.if-touch.ensures.nodes c.if-touch.ensures.others c.if-touch.ensures.same)
     c.in_ok-make_room.ensures.climbs)
     (climbs_up g.T.Tagger.data_tag_of g.T.Tagger.node_tag_of c.args.level (c.args.level + 1) c.make_room.new.self c.parent_present.new.self (g.B.Bus.history c.make_room.new.bus) (g.B.Bus.history c.parent_present.new.bus) c.make_room.new.tags c.parent_present.new.tags None (omega arith) c.in_ok-parent_present.ensures.climbs))
     c.read_in.ensures.climbs
@@ -219,6 +219,11 @@ write_back-returns-clause-back g t c =
     (up_as _ (c.args.level + 1) (IsBlockOf c.args.level c.args.victim.now.place c.args.victim.now.copy) (IsVictim c.args.level c.args.victim.now None) c.parent_present.new.self c.write_below.new.self (g.B.Bus.history c.parent_present.new.bus) (g.B.Bus.history c.write_below.new.bus) c.parent_present.new.tags.made c.write_below.new.tags.made None
     (λ other at bytes is. (is, changed, inl refl)) c.in_ok-write_below.ensures.back)
 
+pub write_back-returns-clause-written : goal.write_back-returns-clause-written
+write_back-returns-clause-written g t c = λ changed.
+    made_more c.args.level c.args.victim.now.place c.args.victim.now.copy c.args.tags.now.made c.parent_present.new.tags.made c.write_below.new.tags.made
+    c.in_ok-parent_present.ensures.climbs.moves.more c.in_ok-parent_present.ensures.climbs.moves.made c.in_ok-write_below.ensures.made
+
 pub make_room-returns-in_default-clause-back : goal.make_room-returns-in_default-clause-back
 make_room-returns-in_default-clause-back g t c =
     up_same _ c.args.level NoNode c.args.self.now c.args.self.now (g.B.Bus.history c.args.bus.now) (g.B.Bus.history c.args.bus.now) c.args.tags.now.made c.args.tags.now.made None (λ place. omega arith) refl (λ level index. refl)
@@ -233,7 +238,7 @@ make_room-returns-in_err-write_back-clause-back g t c =
     (up_victim _ c.args.level c.in-Some.victim c.args.self.now c.write_back.new.self c.write_back.new.self (g.B.Bus.history c.args.bus.now) (g.B.Bus.history c.write_back.new.bus) c.args.tags.now.made c.write_back.new.tags.made (Some why)
     c.in_err-write_back.ensures.climbs.moves.reads (ap (option_map copy_of) way)
     (λ at. ap (λ (cache : List (List Way)). option_map copy_of (way_at cache at)) c.in_err-write_back.ensures.copies)
-    (λ none. absurd (cc)) (λ copy found. found) (λ other at apart. refl) c.in_err-write_back.ensures.back)
+    (λ none. absurd (cc)) (λ copy found. found) (λ other at apart. refl) (λ changed. inl (λ marked. marked)) c.in_err-write_back.ensures.back)
 
 pub make_room-returns-clause-back : goal.make_room-returns-clause-back
 make_room-returns-clause-back g t c =
@@ -245,7 +250,7 @@ make_room-returns-clause-back g t c =
     (λ going. ap (option_map copy_of) c.remove.ensures.removed)
     (λ copy found. let none : None ≡ Some copy = sym (ap (option_map copy_of) c.remove.ensures.removed) ∙ found in absurd (cc))
     (same_as c.write_back.new.self c.self-2.inside.root c.self-2.inside.nodes c.remove.new.self c.self-2.view_is c.args.level c.in-Some.victim.place c.remove.ensures.same)
-    c.in_ok-write_back.ensures.back
+    (λ changed. inr (c.in_ok-write_back.ensures.written changed)) c.in_ok-write_back.ensures.back
 
 pub present-returns-then-touch-clause-back : goal.present-returns-then-touch-clause-back
 present-returns-then-touch-clause-back g t c =
@@ -258,9 +263,7 @@ present-returns-in_err-make_room-clause-back g t c =
     let stop : result_err c.from_residual.result ≡ Some why = search rules in
     subst (λ (s : Option MemStop). WritesUp (EndsQuietly (tags_of g.T.Tagger.data_tag_of g.T.Tagger.node_tag_of) c.args.self.now (g.B.Bus.history c.args.bus.now) c.args.tags.now c.make_room.new.tags) c.args.level NoNode c.args.self.now (g.B.Bus.history c.args.bus.now) c.args.tags.now.made c.make_room.new.self (g.B.Bus.history c.make_room.new.bus) c.make_room.new.tags.made s) (sym stop)
     (up_climbed g.T.Tagger.data_tag_of g.T.Tagger.node_tag_of c.args.level c.args.level NoNode c.args.self.now (tree_of c.self.inside.root c.touch.new.self) c.make_room.new.self (g.B.Bus.history c.args.bus.now) (g.B.Bus.history c.args.bus.now) (g.B.Bus.history c.make_room.new.bus) c.args.tags.now c.args.tags.now c.make_room.new.tags (Some why)
-    (climbs_touched g.T.Tagger.data_tag_of g.T.Tagger.node_tag_of c.args.level c.args.self.now (tree_of c.self.inside.root c.touch.new.self) (g.B.Bus.history c.args.bus.now) c.args.tags.now
-    (geometry_as c.args.self.now c.self.inside.root c.self.inside.nodes c.touch.new.self c.self.view_is c.if-touch.ensures.geometry) (root_as c.args.self.now c.self.inside.root c.self.inside.nodes c.touch.new.self c.self.view_is) c.if-touch.ensures.nodes
-    (others_as c.args.self.now c.self.inside.root c.self.inside.nodes c.touch.new.self c.self.view_is c.args.level c.if-touch.ensures.others) (all_as c.args.self.now c.self.inside.root c.self.inside.nodes c.touch.new.self c.self.view_is c.if-touch.ensures.same)) c.in_err-make_room.ensures.climbs.moves
+    (climbs_touched g.T.Tagger.data_tag_of g.T.Tagger.node_tag_of c.args.level c.args.self.now c.self.inside.root c.self.inside.nodes c.touch.new.self (g.B.Bus.history c.args.bus.now) c.args.tags.now c.self.view_is c.if-touch.ensures.geometry c.if-touch.ensures.nodes c.if-touch.ensures.others c.if-touch.ensures.same) c.in_err-make_room.ensures.climbs.moves
     (up_same _ c.args.level NoNode c.args.self.now (tree_of c.self.inside.root c.touch.new.self) (g.B.Bus.history c.args.bus.now) (g.B.Bus.history c.args.bus.now) c.args.tags.now.made c.args.tags.now.made None (λ place. omega arith) refl
     (all_as c.args.self.now c.self.inside.root c.self.inside.nodes c.touch.new.self c.self.view_is c.if-touch.ensures.same))
     c.in_err-make_room.ensures.back)
@@ -272,14 +275,10 @@ present-returns-in_err-parent_present-clause-back g t c =
     subst (λ (s : Option MemStop). WritesUp (EndsQuietly (tags_of g.T.Tagger.data_tag_of g.T.Tagger.node_tag_of) c.args.self.now (g.B.Bus.history c.args.bus.now) c.args.tags.now c.parent_present.new.tags) c.args.level NoNode c.args.self.now (g.B.Bus.history c.args.bus.now) c.args.tags.now.made c.parent_present.new.self (g.B.Bus.history c.parent_present.new.bus) c.parent_present.new.tags.made s) (sym stop)
     (up_climbed g.T.Tagger.data_tag_of g.T.Tagger.node_tag_of c.args.level c.args.level NoNode c.args.self.now c.make_room.new.self c.parent_present.new.self (g.B.Bus.history c.args.bus.now) (g.B.Bus.history c.make_room.new.bus) (g.B.Bus.history c.parent_present.new.bus) c.args.tags.now c.make_room.new.tags c.parent_present.new.tags (Some why)
     (climbs_on g.T.Tagger.data_tag_of g.T.Tagger.node_tag_of c.args.level c.args.self.now (tree_of c.self.inside.root c.touch.new.self) c.make_room.new.self (g.B.Bus.history c.args.bus.now) (g.B.Bus.history c.args.bus.now) (g.B.Bus.history c.make_room.new.bus) c.args.tags.now c.args.tags.now c.make_room.new.tags None
-    (climbs_touched g.T.Tagger.data_tag_of g.T.Tagger.node_tag_of c.args.level c.args.self.now (tree_of c.self.inside.root c.touch.new.self) (g.B.Bus.history c.args.bus.now) c.args.tags.now
-    (geometry_as c.args.self.now c.self.inside.root c.self.inside.nodes c.touch.new.self c.self.view_is c.if-touch.ensures.geometry) (root_as c.args.self.now c.self.inside.root c.self.inside.nodes c.touch.new.self c.self.view_is) c.if-touch.ensures.nodes
-    (others_as c.args.self.now c.self.inside.root c.self.inside.nodes c.touch.new.self c.self.view_is c.args.level c.if-touch.ensures.others) (all_as c.args.self.now c.self.inside.root c.self.inside.nodes c.touch.new.self c.self.view_is c.if-touch.ensures.same))
+    (climbs_touched g.T.Tagger.data_tag_of g.T.Tagger.node_tag_of c.args.level c.args.self.now c.self.inside.root c.self.inside.nodes c.touch.new.self (g.B.Bus.history c.args.bus.now) c.args.tags.now c.self.view_is c.if-touch.ensures.geometry c.if-touch.ensures.nodes c.if-touch.ensures.others c.if-touch.ensures.same)
     c.in_ok-make_room.ensures.climbs) c.in_err-parent_present.ensures.climbs.moves
     (up_climbed g.T.Tagger.data_tag_of g.T.Tagger.node_tag_of c.args.level c.args.level NoNode c.args.self.now (tree_of c.self.inside.root c.touch.new.self) c.make_room.new.self (g.B.Bus.history c.args.bus.now) (g.B.Bus.history c.args.bus.now) (g.B.Bus.history c.make_room.new.bus) c.args.tags.now c.args.tags.now c.make_room.new.tags None
-    (climbs_touched g.T.Tagger.data_tag_of g.T.Tagger.node_tag_of c.args.level c.args.self.now (tree_of c.self.inside.root c.touch.new.self) (g.B.Bus.history c.args.bus.now) c.args.tags.now
-    (geometry_as c.args.self.now c.self.inside.root c.self.inside.nodes c.touch.new.self c.self.view_is c.if-touch.ensures.geometry) (root_as c.args.self.now c.self.inside.root c.self.inside.nodes c.touch.new.self c.self.view_is) c.if-touch.ensures.nodes
-    (others_as c.args.self.now c.self.inside.root c.self.inside.nodes c.touch.new.self c.self.view_is c.args.level c.if-touch.ensures.others) (all_as c.args.self.now c.self.inside.root c.self.inside.nodes c.touch.new.self c.self.view_is c.if-touch.ensures.same)) c.in_ok-make_room.ensures.climbs.moves
+    (climbs_touched g.T.Tagger.data_tag_of g.T.Tagger.node_tag_of c.args.level c.args.self.now c.self.inside.root c.self.inside.nodes c.touch.new.self (g.B.Bus.history c.args.bus.now) c.args.tags.now c.self.view_is c.if-touch.ensures.geometry c.if-touch.ensures.nodes c.if-touch.ensures.others c.if-touch.ensures.same) c.in_ok-make_room.ensures.climbs.moves
     (up_same _ c.args.level NoNode c.args.self.now (tree_of c.self.inside.root c.touch.new.self) (g.B.Bus.history c.args.bus.now) (g.B.Bus.history c.args.bus.now) c.args.tags.now.made c.args.tags.now.made None (λ place. omega arith) refl
     (all_as c.args.self.now c.self.inside.root c.self.inside.nodes c.touch.new.self c.self.view_is c.if-touch.ensures.same))
     c.in_ok-make_room.ensures.back)
@@ -292,21 +291,15 @@ present-returns-clause-back g t c =
     up_climbed g.T.Tagger.data_tag_of g.T.Tagger.node_tag_of c.args.level c.args.level NoNode c.args.self.now c.parent_present.new.self c.read_in.new.self (g.B.Bus.history c.args.bus.now) (g.B.Bus.history c.parent_present.new.bus) (g.B.Bus.history c.read_in.new.bus) c.args.tags.now c.parent_present.new.tags c.read_in.new.tags (result_err c.read_in.result)
     (climbs_on g.T.Tagger.data_tag_of g.T.Tagger.node_tag_of c.args.level c.args.self.now c.make_room.new.self c.parent_present.new.self (g.B.Bus.history c.args.bus.now) (g.B.Bus.history c.make_room.new.bus) (g.B.Bus.history c.parent_present.new.bus) c.args.tags.now c.make_room.new.tags c.parent_present.new.tags None
     (climbs_on g.T.Tagger.data_tag_of g.T.Tagger.node_tag_of c.args.level c.args.self.now (tree_of c.self.inside.root c.touch.new.self) c.make_room.new.self (g.B.Bus.history c.args.bus.now) (g.B.Bus.history c.args.bus.now) (g.B.Bus.history c.make_room.new.bus) c.args.tags.now c.args.tags.now c.make_room.new.tags None
-    (climbs_touched g.T.Tagger.data_tag_of g.T.Tagger.node_tag_of c.args.level c.args.self.now (tree_of c.self.inside.root c.touch.new.self) (g.B.Bus.history c.args.bus.now) c.args.tags.now
-    (geometry_as c.args.self.now c.self.inside.root c.self.inside.nodes c.touch.new.self c.self.view_is c.if-touch.ensures.geometry) (root_as c.args.self.now c.self.inside.root c.self.inside.nodes c.touch.new.self c.self.view_is) c.if-touch.ensures.nodes
-    (others_as c.args.self.now c.self.inside.root c.self.inside.nodes c.touch.new.self c.self.view_is c.args.level c.if-touch.ensures.others) (all_as c.args.self.now c.self.inside.root c.self.inside.nodes c.touch.new.self c.self.view_is c.if-touch.ensures.same))
+    (climbs_touched g.T.Tagger.data_tag_of g.T.Tagger.node_tag_of c.args.level c.args.self.now c.self.inside.root c.self.inside.nodes c.touch.new.self (g.B.Bus.history c.args.bus.now) c.args.tags.now c.self.view_is c.if-touch.ensures.geometry c.if-touch.ensures.nodes c.if-touch.ensures.others c.if-touch.ensures.same)
     c.in_ok-make_room.ensures.climbs)
     (climbs_up g.T.Tagger.data_tag_of g.T.Tagger.node_tag_of c.args.level (c.args.level + 1) c.make_room.new.self c.parent_present.new.self (g.B.Bus.history c.make_room.new.bus) (g.B.Bus.history c.parent_present.new.bus) c.make_room.new.tags c.parent_present.new.tags None (omega arith) c.in_ok-parent_present.ensures.climbs)) c.read_in.ensures.climbs.moves
     (up_climbed g.T.Tagger.data_tag_of g.T.Tagger.node_tag_of c.args.level c.args.level NoNode c.args.self.now c.make_room.new.self c.parent_present.new.self (g.B.Bus.history c.args.bus.now) (g.B.Bus.history c.make_room.new.bus) (g.B.Bus.history c.parent_present.new.bus) c.args.tags.now c.make_room.new.tags c.parent_present.new.tags None
     (climbs_on g.T.Tagger.data_tag_of g.T.Tagger.node_tag_of c.args.level c.args.self.now (tree_of c.self.inside.root c.touch.new.self) c.make_room.new.self (g.B.Bus.history c.args.bus.now) (g.B.Bus.history c.args.bus.now) (g.B.Bus.history c.make_room.new.bus) c.args.tags.now c.args.tags.now c.make_room.new.tags None
-    (climbs_touched g.T.Tagger.data_tag_of g.T.Tagger.node_tag_of c.args.level c.args.self.now (tree_of c.self.inside.root c.touch.new.self) (g.B.Bus.history c.args.bus.now) c.args.tags.now
-    (geometry_as c.args.self.now c.self.inside.root c.self.inside.nodes c.touch.new.self c.self.view_is c.if-touch.ensures.geometry) (root_as c.args.self.now c.self.inside.root c.self.inside.nodes c.touch.new.self c.self.view_is) c.if-touch.ensures.nodes
-    (others_as c.args.self.now c.self.inside.root c.self.inside.nodes c.touch.new.self c.self.view_is c.args.level c.if-touch.ensures.others) (all_as c.args.self.now c.self.inside.root c.self.inside.nodes c.touch.new.self c.self.view_is c.if-touch.ensures.same))
+    (climbs_touched g.T.Tagger.data_tag_of g.T.Tagger.node_tag_of c.args.level c.args.self.now c.self.inside.root c.self.inside.nodes c.touch.new.self (g.B.Bus.history c.args.bus.now) c.args.tags.now c.self.view_is c.if-touch.ensures.geometry c.if-touch.ensures.nodes c.if-touch.ensures.others c.if-touch.ensures.same)
     c.in_ok-make_room.ensures.climbs) c.in_ok-parent_present.ensures.climbs.moves
     (up_climbed g.T.Tagger.data_tag_of g.T.Tagger.node_tag_of c.args.level c.args.level NoNode c.args.self.now (tree_of c.self.inside.root c.touch.new.self) c.make_room.new.self (g.B.Bus.history c.args.bus.now) (g.B.Bus.history c.args.bus.now) (g.B.Bus.history c.make_room.new.bus) c.args.tags.now c.args.tags.now c.make_room.new.tags None
-    (climbs_touched g.T.Tagger.data_tag_of g.T.Tagger.node_tag_of c.args.level c.args.self.now (tree_of c.self.inside.root c.touch.new.self) (g.B.Bus.history c.args.bus.now) c.args.tags.now
-    (geometry_as c.args.self.now c.self.inside.root c.self.inside.nodes c.touch.new.self c.self.view_is c.if-touch.ensures.geometry) (root_as c.args.self.now c.self.inside.root c.self.inside.nodes c.touch.new.self c.self.view_is) c.if-touch.ensures.nodes
-    (others_as c.args.self.now c.self.inside.root c.self.inside.nodes c.touch.new.self c.self.view_is c.args.level c.if-touch.ensures.others) (all_as c.args.self.now c.self.inside.root c.self.inside.nodes c.touch.new.self c.self.view_is c.if-touch.ensures.same)) c.in_ok-make_room.ensures.climbs.moves
+    (climbs_touched g.T.Tagger.data_tag_of g.T.Tagger.node_tag_of c.args.level c.args.self.now c.self.inside.root c.self.inside.nodes c.touch.new.self (g.B.Bus.history c.args.bus.now) c.args.tags.now c.self.view_is c.if-touch.ensures.geometry c.if-touch.ensures.nodes c.if-touch.ensures.others c.if-touch.ensures.same) c.in_ok-make_room.ensures.climbs.moves
     (up_same _ c.args.level NoNode c.args.self.now (tree_of c.self.inside.root c.touch.new.self) (g.B.Bus.history c.args.bus.now) (g.B.Bus.history c.args.bus.now) c.args.tags.now.made c.args.tags.now.made None (λ place. omega arith) refl
     (all_as c.args.self.now c.self.inside.root c.self.inside.nodes c.touch.new.self c.self.view_is c.if-touch.ensures.same))
     c.in_ok-make_room.ensures.back)
@@ -362,9 +355,7 @@ present-returns-clause-out_for g t c = λ holds quiet.
     let same = all_as c.args.self.now c.self.inside.root c.self.inside.nodes c.touch.new.self c.self.view_is c.if-touch.ensures.same in
     let geometry = geometry_as c.args.self.now c.self.inside.root c.self.inside.nodes c.touch.new.self c.self.view_is c.if-touch.ensures.geometry in
     let touched =
-    climbs_touched g.T.Tagger.data_tag_of g.T.Tagger.node_tag_of c.args.level c.args.self.now (tree_of c.self.inside.root c.touch.new.self) (g.B.Bus.history c.args.bus.now) c.args.tags.now
-    geometry (root_as c.args.self.now c.self.inside.root c.self.inside.nodes c.touch.new.self c.self.view_is) c.if-touch.ensures.nodes
-    (others_as c.args.self.now c.self.inside.root c.self.inside.nodes c.touch.new.self c.self.view_is c.args.level c.if-touch.ensures.others) same in
+    climbs_touched g.T.Tagger.data_tag_of g.T.Tagger.node_tag_of c.args.level c.args.self.now c.self.inside.root c.self.inside.nodes c.touch.new.self (g.B.Bus.history c.args.bus.now) c.args.tags.now c.self.view_is c.if-touch.ensures.geometry c.if-touch.ensures.nodes c.if-touch.ensures.others c.if-touch.ensures.same in
     let room = c.in_ok-make_room.ensures.climbs in
     let parent = c.in_ok-parent_present.ensures.climbs in
     let going : None ≢ Some NoMemory = λ (e : None ≡ Some NoMemory). cc in
@@ -381,6 +372,131 @@ present-returns-clause-out_for g t c = λ holds quiet.
     room.moves.reads parent.moves.reads c.read_in.ensures.climbs.moves.reads unmade
     (λ other at none. unmade other at (unmade_before c.make_room.new.tags.made c.parent_present.new.tags.made parent.moves.more parent.moves.made other at none))
     (c.in_ok-make_room.ensures.out_for holds_touched quiet_room) (c.in_ok-parent_present.ensures.out_for holds_room quiet_parent) c.read_in.ensures.kept)
+
+-- Which nodes they have
+
+pub parent_present-returns-then-level-levels-clause-had : goal.parent_present-returns-then-level-levels-clause-had
+parent_present-returns-then-level-levels-clause-had g t c =
+    record { had = nodes_none _ (c.args.level + 1) c.args.self.now (g.B.Bus.history c.args.bus.now); unread = λ index. refl }
+
+pub parent_present-returns-clause-had : goal.parent_present-returns-clause-had
+parent_present-returns-clause-had g t c =
+    let geometry = c.args.self.now.geometry in
+    let more = since c.args.tags.now.made c.present.new.tags.made in
+    let geometry_is : c.geometry-geometry.result ≡ geometry = c.geometry-geometry.ensures ∙ ap (λ (v : TreeView). v.geometry) c.self.view_is in
+    let parent_is : c.parent.result.1 ≡ c.args.index / arity geometry =
+    ap (λ (node : ℕ × ℕ). node.1) c.parent.ensures.parent ∙ ap (λ (k : GeometryView). c.args.index / arity k) geometry_is in
+    on_ok c.present.result c.present.ensures.had (λ had. record {
+      had =
+          nodes_wider _ _ (c.args.level + 1) c.args.self.now c.present.new.self (g.B.Bus.history c.args.bus.now) (g.B.Bus.history c.present.new.bus)
+          (climb_parent geometry geometry more more refl (λ message listed. listed) c.args.level c.args.index)
+          (subst (λ (index : ℕ). NodesHad (MayClimb geometry (c.args.level + 1) index more) (c.args.level + 1) c.args.self.now (g.B.Bus.history c.args.bus.now)
+          c.present.new.self (g.B.Bus.history c.present.new.bus)) parent_is had);
+      unread = λ index. c.present.ensures.climbs.reads c.args.level index (omega arith);
+    })
+
+pub write_back-returns-then-not-victim-clause-had : goal.write_back-returns-then-not-victim-clause-had
+write_back-returns-then-not-victim-clause-had g t c =
+    record { had = nodes_none _ (c.args.level + 1) c.args.self.now (g.B.Bus.history c.args.bus.now); unread = λ index. refl }
+
+pub write_back-returns-clause-had : goal.write_back-returns-clause-had
+write_back-returns-clause-had g t c =
+    let unread : (level index : ℕ) → (g.B.Bus.history c.write_below.new.bus).reads (node_place level index)
+    ≡ (g.B.Bus.history c.parent_present.new.bus).reads (node_place level index) =
+    λ level index. ap (λ (f : Place → ℕ). f (node_place level index)) c.in_ok-write_below.ensures.reads in
+    let geometry = c.args.self.now.geometry in
+    let parent = c.in_ok-parent_present.ensures.climbs.moves in
+    let own : List Message = Node c.args.level c.args.victim.now.place c.args.victim.now.copy ∷ [] in
+    record {
+      had =
+          had_still _ (c.args.level + 1) c.args.self.now c.parent_present.new.self c.write_below.new.self (g.B.Bus.history c.args.bus.now) (g.B.Bus.history c.parent_present.new.bus)
+          (g.B.Bus.history c.write_below.new.bus)
+          (nodes_wider _ _ (c.args.level + 1) c.args.self.now c.parent_present.new.self (g.B.Bus.history c.args.bus.now) (g.B.Bus.history c.parent_present.new.bus)
+          (climb_made geometry geometry (since c.args.tags.now.made c.parent_present.new.tags.made) (since c.args.tags.now.made c.write_below.new.tags.made) refl
+          (since_before c.args.tags.now.made c.parent_present.new.tags.made c.write_below.new.tags.made parent.more own parent.made c.in_ok-write_below.ensures.made)
+          c.args.level c.args.victim.now.place c.args.victim.now.copy
+          (since_after c.args.tags.now.made c.parent_present.new.tags.made c.write_below.new.tags.made parent.more own parent.made c.in_ok-write_below.ensures.made
+          (Node c.args.level c.args.victim.now.place c.args.victim.now.copy) (Contains-push [] (Node c.args.level c.args.victim.now.place c.args.victim.now.copy))))
+          c.in_ok-parent_present.ensures.had.had) c.in_ok-write_below.ensures.orders (λ level index high. unread level index);
+      unread = λ index. unread c.args.level index ∙ c.in_ok-parent_present.ensures.had.unread index;
+    }
+
+pub make_room-returns-in_default-clause-had : goal.make_room-returns-in_default-clause-had
+make_room-returns-in_default-clause-had g t c =
+    let are : AreNodeCaches c.args.self.now.geometry c.args.self.now.caches =
+    subst (λ (v : TreeView). AreNodeCaches v.geometry v.caches) c.self.view_is c.self.invariant in
+    record {
+      mid = c.args.self.now;
+      above = record { had = nodes_none _ (c.args.level + 1) c.args.self.now (g.B.Bus.history c.args.bus.now); unread = λ index. refl };
+      room =
+          room_here c.args.self.now c.args.level c.args.index (are.each c.args.level c.requires.above c.requires.node.0) c.requires.absent
+          (subst (λ (v : TreeView). victim_for (level_cache v.caches c.args.level) c.args.index ≡ None) c.self.view_is (sym c.in_default.ensures.victim));
+    }
+
+pub make_room-returns-clause-had : goal.make_room-returns-clause-had
+make_room-returns-clause-had g t c =
+    let are : AreNodeCaches c.write_back.new.self.geometry c.write_back.new.self.caches =
+    subst (λ (v : TreeView). AreNodeCaches v.geometry v.caches) c.self-2.view_is c.self-2.invariant in
+    let inside : c.args.level ≤ c.write_back.new.self.geometry.levels =
+    subst (λ (k : GeometryView). c.args.level ≤ k.levels) (sym c.in_ok-write_back.ensures.climbs.geometry) c.requires.node.0 in
+    let goes : victim_for (level_cache c.args.self.now.caches c.args.level) c.args.index ≡ Some c.in-Some.victim =
+    subst (λ (v : TreeView). victim_for (level_cache v.caches c.args.level) c.args.index ≡ Some c.in-Some.victim) c.self.view_is (sym c.in-Some.ensures.victim) in
+    record {
+      mid = c.write_back.new.self;
+      above = c.in_ok-write_back.ensures.had;
+      room =
+          removed_here c.write_back.new.self (tree_of c.self-2.inside.root c.remove.new.self) c.args.level (are.each c.args.level c.requires.above inside)
+          (others_as c.write_back.new.self c.self-2.inside.root c.self-2.inside.nodes c.remove.new.self c.self-2.view_is c.args.level c.remove.ensures.others) c.args.index
+          c.in-Some.victim (ap (λ (cache : List (List Way)). way_at cache c.args.index) c.in_ok-write_back.ensures.copies ∙ c.requires.absent)
+          (ap (λ (cache : List (List Way)). victim_for cache c.args.index) c.in_ok-write_back.ensures.copies ∙ goes) c.in-Some.ensures.beside
+          (subst (λ (v : TreeView). level_cache c.remove.new.self.caches c.args.level ≡ with_set (level_cache v.caches c.args.level) c.in-Some.victim.place
+          (without c.in-Some.victim.place (set_at (level_cache v.caches c.args.level) c.in-Some.victim.place))) c.self-2.view_is c.remove.ensures.after);
+    }
+
+pub present-returns-then-touch-clause-had : goal.present-returns-then-touch-clause-had
+present-returns-then-touch-clause-had g t c =
+    let are : AreNodeCaches c.args.self.now.geometry c.args.self.now.caches =
+    subst (λ (v : TreeView). AreNodeCaches v.geometry v.caches) c.self.view_is c.self.invariant in
+    had_one _ c.args.level c.args.index c.args.self.now (tree_of c.self.inside.root c.touch.new.self) (g.B.Bus.history c.args.bus.now)
+    (climb_here c.args.self.now.geometry c.args.level c.args.index (since c.args.tags.now.made c.args.tags.now.made))
+    (touched_here c.args.self.now (tree_of c.self.inside.root c.touch.new.self) c.args.level (are.each c.args.level c.requires.above c.requires.node.0)
+    (others_as c.args.self.now c.self.inside.root c.self.inside.nodes c.touch.new.self c.self.view_is c.args.level c.if-touch.ensures.others) c.args.index
+    (subst (λ (v : TreeView). IsSome (node_way v.caches c.args.level c.args.index)) c.self.view_is (c.if-touch.ensures.held.0 refl))
+    (subst (λ (v : TreeView). level_cache c.touch.new.self.caches c.args.level ≡ with_set (level_cache v.caches c.args.level) c.args.index
+    (touched c.args.index (set_at (level_cache v.caches c.args.level) c.args.index))) c.self.view_is c.if-touch.ensures.after))
+
+pub present-returns-clause-had : goal.present-returns-clause-had
+present-returns-clause-had g t c =
+    let are : AreNodeCaches c.args.self.now.geometry c.args.self.now.caches =
+    subst (λ (v : TreeView). AreNodeCaches v.geometry v.caches) c.self.view_is c.self.invariant in
+    let cache = are.each c.args.level c.requires.above c.requires.node.0 in
+    let none : node_way c.args.self.now.caches c.args.level c.args.index ≡ None =
+    subst (λ (v : TreeView). node_way v.caches c.args.level c.args.index ≡ None) c.self.view_is (c.if-touch.ensures.absent refl) in
+    let same = touched_same c.args.self.now (tree_of c.self.inside.root c.touch.new.self) c.args.level cache
+    (others_as c.args.self.now c.self.inside.root c.self.inside.nodes c.touch.new.self c.self.view_is c.args.level c.if-touch.ensures.others) c.args.index none
+    (subst (λ (v : TreeView). level_cache c.touch.new.self.caches c.args.level ≡ with_set (level_cache v.caches c.args.level) c.args.index
+    (touched c.args.index (set_at (level_cache v.caches c.args.level) c.args.index))) c.self.view_is c.if-touch.ensures.after) in
+    let geometry = geometry_as c.args.self.now c.self.inside.root c.self.inside.nodes c.touch.new.self c.self.view_is c.if-touch.ensures.geometry in
+    let room = c.in_ok-make_room.ensures.climbs in
+    let parent = c.in_ok-parent_present.ensures.climbs.moves in
+    let read = c.read_in.ensures.climbs.moves in
+    let made = c.args.tags.now.made in
+    let all = since made c.read_in.new.tags.made in
+    on_ok c.read_in.result c.read_in.ensures.had
+    (had_came (MayClimb c.args.self.now.geometry c.args.level c.args.index all)
+    c.args.level c.args.index c.args.self.now (tree_of c.self.inside.root c.touch.new.self) c.make_room.new.self c.parent_present.new.self c.read_in.new.self
+    (g.B.Bus.history c.args.bus.now) (g.B.Bus.history c.make_room.new.bus) (g.B.Bus.history c.parent_present.new.bus) (g.B.Bus.history c.read_in.new.bus)
+    (climb_here c.args.self.now.geometry c.args.level c.args.index all)
+    same (unlisted c.args.self.now c.args.level c.args.index cache none)
+    (room_wider _ _ c.args.level c.args.index (tree_of c.self.inside.root c.touch.new.self) c.make_room.new.self (g.B.Bus.history c.args.bus.now) (g.B.Bus.history c.make_room.new.bus)
+    (λ other at high above. inr (made_wider c.args.self.now.geometry c.touch.new.self.geometry (since made c.make_room.new.tags.made) all geometry
+    (since_first made c.make_room.new.tags.made c.parent_present.new.tags.made c.read_in.new.tags.made room.moves.more parent.more read.more room.moves.made parent.made read.made)
+    other at above)) c.in_ok-make_room.ensures.had)
+    (above_wider _ _ c.args.level c.make_room.new.self c.parent_present.new.self (g.B.Bus.history c.make_room.new.bus) (g.B.Bus.history c.parent_present.new.bus)
+    (λ other at high. climb_wider c.args.self.now.geometry c.make_room.new.self.geometry (since c.make_room.new.tags.made c.parent_present.new.tags.made) all
+    (room.geometry ∙ geometry)
+    (since_second made c.make_room.new.tags.made c.parent_present.new.tags.made c.read_in.new.tags.made room.moves.more parent.more read.more room.moves.made parent.made read.made)
+    c.args.level c.args.index other at) c.in_ok-parent_present.ensures.had))
 
 -- Which accesses they make
 
@@ -448,9 +564,7 @@ make_room-returns-in_err-write_back-clause-makes g t c =
 pub present-returns-in_err-make_room-clause-makes : goal.present-returns-in_err-make_room-clause-makes
 present-returns-in_err-make_room-clause-makes g t c =
     let touched =
-    climbs_touched g.T.Tagger.data_tag_of g.T.Tagger.node_tag_of c.args.level c.args.self.now (tree_of c.self.inside.root c.touch.new.self) (g.B.Bus.history c.args.bus.now) c.args.tags.now
-    (geometry_as c.args.self.now c.self.inside.root c.self.inside.nodes c.touch.new.self c.self.view_is c.if-touch.ensures.geometry) (root_as c.args.self.now c.self.inside.root c.self.inside.nodes c.touch.new.self c.self.view_is) c.if-touch.ensures.nodes
-    (others_as c.args.self.now c.self.inside.root c.self.inside.nodes c.touch.new.self c.self.view_is c.args.level c.if-touch.ensures.others) (all_as c.args.self.now c.self.inside.root c.self.inside.nodes c.touch.new.self c.self.view_is c.if-touch.ensures.same) in
+    climbs_touched g.T.Tagger.data_tag_of g.T.Tagger.node_tag_of c.args.level c.args.self.now c.self.inside.root c.self.inside.nodes c.touch.new.self (g.B.Bus.history c.args.bus.now) c.args.tags.now c.self.view_is c.if-touch.ensures.geometry c.if-touch.ensures.nodes c.if-touch.ensures.others c.if-touch.ensures.same in
     let stop : result_err c.from_residual.result ≡ Some c.in_err-make_room.field-0.0 = search rules in
     let room = c.in_err-make_room.ensures.makes in (
       room.0,
@@ -464,9 +578,7 @@ present-returns-in_err-make_room-clause-makes g t c =
 pub present-returns-in_err-parent_present-clause-makes : goal.present-returns-in_err-parent_present-clause-makes
 present-returns-in_err-parent_present-clause-makes g t c =
     let touched =
-    climbs_touched g.T.Tagger.data_tag_of g.T.Tagger.node_tag_of c.args.level c.args.self.now (tree_of c.self.inside.root c.touch.new.self) (g.B.Bus.history c.args.bus.now) c.args.tags.now
-    (geometry_as c.args.self.now c.self.inside.root c.self.inside.nodes c.touch.new.self c.self.view_is c.if-touch.ensures.geometry) (root_as c.args.self.now c.self.inside.root c.self.inside.nodes c.touch.new.self c.self.view_is) c.if-touch.ensures.nodes
-    (others_as c.args.self.now c.self.inside.root c.self.inside.nodes c.touch.new.self c.self.view_is c.args.level c.if-touch.ensures.others) (all_as c.args.self.now c.self.inside.root c.self.inside.nodes c.touch.new.self c.self.view_is c.if-touch.ensures.same) in
+    climbs_touched g.T.Tagger.data_tag_of g.T.Tagger.node_tag_of c.args.level c.args.self.now c.self.inside.root c.self.inside.nodes c.touch.new.self (g.B.Bus.history c.args.bus.now) c.args.tags.now c.self.view_is c.if-touch.ensures.geometry c.if-touch.ensures.nodes c.if-touch.ensures.others c.if-touch.ensures.same in
     let stop : result_err c.from_residual-in_err-parent_present.result ≡ Some c.in_err-parent_present.field-0.0 = search rules in
     let room = c.in_ok-make_room.ensures.makes in
     let climbed = c.in_err-parent_present.ensures.makes in (
@@ -484,9 +596,7 @@ present-returns-in_err-parent_present-clause-makes g t c =
 pub present-returns-clause-makes : goal.present-returns-clause-makes
 present-returns-clause-makes g t c =
     let touched =
-    climbs_touched g.T.Tagger.data_tag_of g.T.Tagger.node_tag_of c.args.level c.args.self.now (tree_of c.self.inside.root c.touch.new.self) (g.B.Bus.history c.args.bus.now) c.args.tags.now
-    (geometry_as c.args.self.now c.self.inside.root c.self.inside.nodes c.touch.new.self c.self.view_is c.if-touch.ensures.geometry) (root_as c.args.self.now c.self.inside.root c.self.inside.nodes c.touch.new.self c.self.view_is) c.if-touch.ensures.nodes
-    (others_as c.args.self.now c.self.inside.root c.self.inside.nodes c.touch.new.self c.self.view_is c.args.level c.if-touch.ensures.others) (all_as c.args.self.now c.self.inside.root c.self.inside.nodes c.touch.new.self c.self.view_is c.if-touch.ensures.same) in
+    climbs_touched g.T.Tagger.data_tag_of g.T.Tagger.node_tag_of c.args.level c.args.self.now c.self.inside.root c.self.inside.nodes c.touch.new.self (g.B.Bus.history c.args.bus.now) c.args.tags.now c.self.view_is c.if-touch.ensures.geometry c.if-touch.ensures.nodes c.if-touch.ensures.others c.if-touch.ensures.same in
     let room = c.in_ok-make_room.ensures.makes in
     let climbed = c.in_ok-parent_present.ensures.makes in
     let read = c.read_in.ensures.makes in (

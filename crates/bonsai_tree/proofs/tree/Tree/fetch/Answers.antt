@@ -1,4 +1,5 @@
 use Rattle.std.proofs.Common.{inl, inr, None, ◌≡◌, ◌+◌, ◌/◌, ◌≤◌, List, length, Option, Some, refl, ap, sym, ◌∙◌, subst, arith, rules, ◌++◌}
+use Rattle.std.specs.List.{Contains}
 use Rattle.std.specs.Result.{result_err}
 use Rattle.sec_base.specs.Geometry.{GeometryView, IsNode, arity}
 use Rattle.sec_base.specs.declared.evidence.Evidence.TheVariants.{Collision}
@@ -12,11 +13,14 @@ use Rattle.tag_engine.specs.TagEngine.{TagEngineView, tags_of}
 use Rattle.checked_bus.specs.Makes.{Makes}
 use Rattle.bonsai_tree.specs.Climb.{Climbs, NoNode, WritesUp}
 use Rattle.bonsai_tree.specs.Node.{level_blocks}
+use Rattle.bonsai_tree.specs.NodesHad.{since}
 use Rattle.bonsai_tree.specs.Tree.{EndsQuietly, GoesOutFor, HoldsTree, IsFetchPlace}
 use Rattle.bonsai_tree.specs.TreeCall.{TreeCall}
 use Rattle.bonsai_tree.proofs.Climbs.{unmade_before}
+use Rattle.bonsai_tree.proofs.NodesHad.{had_still}
+use Rattle.bonsai_tree.proofs.NodesJoined.{climb_page, nodes_wider}
 use Rattle.bonsai_tree.proofs.OutFor.{out_kept, out_on}
-use Rattle.bonsai_tree.proofs.PathCalls.{fetched, fetched_accepted, fetched_alone, fetched_block, fetched_by_tag, fetched_checked, fetched_found, fetched_pages, fetched_read, not_from_one, ok_of, page_node, path_more}
+use Rattle.bonsai_tree.proofs.PathCalls.{fetched, fetched_accepted, fetched_alone, fetched_block, fetched_by_tag, fetched_checked, fetched_found, fetched_once, fetched_pages, fetched_read, not_from_one, ok_of, page_node, path_more}
 use Rattle.bonsai_tree.proofs.Views.{latest_cached}
 use Rattle.bonsai_tree.proofs.WrittenBack.{up_climbed, up_same}
 use Rattle.bonsai_tree.proofs.TreeCalls.{tree_called}
@@ -125,6 +129,13 @@ pub returns-clause-alone : goal.returns-clause-alone
 returns-clause-alone g c =
     fetched_alone g.T.Tagger.data_tag_of g.T.Tagger.node_tag_of c.args.self.now c.parent_present.new.self c.args.page c.kept_tag-tag.result (g.B.Bus.history c.args.bus.now) (g.B.Bus.history c.parent_present.new.bus) (g.B.Bus.history c.read_kept.new.bus) c.args.tags.now c.parent_present.new.tags c.read_kept.new.tags c.read_kept.result (own_node g c) c.in_ok-parent_present.ensures.climbs c.kept_tag-tag.ensures c.read_kept.ensures.read
 
+pub returns-clause-block_once : goal.returns-clause-block_once
+returns-clause-block_once g c =
+    fetched_once g.T.Tagger.data_tag_of g.T.Tagger.node_tag_of c.args.self.now c.parent_present.new.self c.args.page c.kept_tag-tag.result (g.B.Bus.history c.args.bus.now) (g.B.Bus.history c.parent_present.new.bus) (g.B.Bus.history c.read_kept.new.bus) c.args.tags.now c.parent_present.new.tags c.read_kept.new.tags c.read_kept.result (own_node g c) c.in_ok-parent_present.ensures.climbs c.kept_tag-tag.ensures c.read_kept.ensures.read
+
+pub returns-in_err-parent_present-clause-block_once : goal.returns-in_err-parent_present-clause-block_once
+returns-in_err-parent_present-clause-block_once g c = omega (arith, c.in_err-parent_present.ensures.climbs.reads 0 c.args.page (omega arith))
+
 pub returns-in_err-parent_present-clause-alone : goal.returns-in_err-parent_present-clause-alone
 returns-in_err-parent_present-clause-alone g c = λ other apart. c.in_err-parent_present.ensures.climbs.reads 0 other (omega arith)
 
@@ -161,7 +172,8 @@ returns-in_err-parent_present-clause-called g c =
     climbs c.in_err-parent_present.ensures.nodes c.in_err-parent_present.ensures.back.back
     (omega (arith, c.in_err-parent_present.ensures.once, path_more c.args.self.now.geometry.levels))
     (omega (arith, c.in_err-parent_present.ensures.few, path_more c.args.self.now.geometry.levels))
-    (λ place is. inr (climbs.tampered place is)) (λ quiet evidence is. inr (climbs.found quiet evidence is)) (λ holds quiet going. absurd (cc)))
+    (λ place is. inr (climbs.tampered place is)) (λ quiet evidence is. inr (climbs.found quiet evidence is)) (λ holds quiet going. absurd (cc))
+    (λ going. absurd (cc)))
 
 -- what copies go out for
 goes_out : (g : Over) (c : goal.After-read_kept g) → HoldsTree (tags_of g.T.Tagger.data_tag_of g.T.Tagger.node_tag_of) c.args.self.now (g.B.Bus.history c.args.bus.now) c.args.tags.now → c.read_kept.new.tags.evidence ≡ None →
@@ -184,3 +196,8 @@ returns-clause-called g c =
     (λ place is. inl (read.tampered place (stop_is c.read_kept.result (Tampered place) is)).0)
     (fetched_found g.T.Tagger.data_tag_of g.T.Tagger.node_tag_of c.args.self.now c.parent_present.new.self c.args.page c.kept_tag-tag.result (g.B.Bus.history c.args.bus.now) (g.B.Bus.history c.parent_present.new.bus) (g.B.Bus.history c.read_kept.new.bus) c.args.tags.now c.parent_present.new.tags c.read_kept.new.tags c.read_kept.result (own_node g c) c.in_ok-parent_present.ensures.climbs c.kept_tag-tag.ensures read)
     (λ holds quiet going. goes_out g c holds quiet)
+    (λ going. had_still _ 1 c.args.self.now c.parent_present.new.self c.parent_present.new.self (g.B.Bus.history c.args.bus.now) (g.B.Bus.history c.parent_present.new.bus) (g.B.Bus.history c.read_kept.new.bus)
+    (nodes_wider _ _ 1 c.args.self.now c.parent_present.new.self (g.B.Bus.history c.args.bus.now) (g.B.Bus.history c.parent_present.new.bus)
+    (λ level index high. climb_page c.args.self.now.geometry c.args.self.now.geometry (since c.args.tags.now.made c.parent_present.new.tags.made) (since c.args.tags.now.made c.read_kept.new.tags.made) refl
+    (λ message listed. subst (λ (made : List Message). Contains (since c.args.tags.now.made made) message) (sym read.made) listed)
+    (IsFetchPlace c.args.self.now.geometry c.args.page) c.args.page (inl refl) level index) c.in_ok-parent_present.ensures.had.had) (λ level set. refl) (λ level index high. read.alone level index (λ same. absurd (omega (arith, high, same.0)))))

@@ -5,11 +5,13 @@ use Rattle.sec_base.specs.Geometry.{arity}
 use Rattle.sec_base.proofs.Results.{was_none}
 use Rattle.sec_base.specs.declared.stop.MemStop.{MemStop}
 use Rattle.sec_base.specs.declared.stop.MemStop.TheVariants.{NoMemory}
+use Rattle.cache_set.specs.Bringing.{with_new}
 use Rattle.tag_engine.specs.TagEngine.{tags_of}
 use Rattle.checked_bus.specs.Makes.{Makes}
 use Rattle.bonsai_tree.specs.Climb.{Climbs, NoNode, WritesUp}
-use Rattle.bonsai_tree.specs.NodeCache.{AreNodeCaches, copy_of}
+use Rattle.bonsai_tree.specs.NodeCache.{AreNodeCaches, copy_of, level_cache}
 use Rattle.bonsai_tree.specs.Tree.{EndsQuietly, HoldsTree, NodeCame, TreeView}
+use Rattle.bonsai_tree.proofs.NodesHad.{put_here}
 use Rattle.bonsai_tree.proofs.NodeCalls.{climbs_put, climbs_read, kept_node}
 use Rattle.bonsai_tree.proofs.OutFor.{kept_at}
 use Rattle.bonsai_tree.proofs.Views.{latest_cached, geometry_as, others_as, root_as, same_as, tree_of}
@@ -66,7 +68,7 @@ returns-in_err-block-clause-back g c =
 pub returns-clause-back : goal.returns-clause-back
 returns-clause-back g c =
     up_put _ c.args.level NoNode c.args.level c.args.index c.in_ok-block.block c.args.self.now (tree_of c.self.inside.root c.put.new.self) (g.B.Bus.history c.args.bus.now) (g.B.Bus.history c.read_kept.new.bus) c.args.tags.now.made c.read_kept.new.tags.made None
-    c.in_ok-block.ensures.read.moves.reads c.in_ok-block.ensures.read.made (ap (λ o. option_map copy_of o) c.put.ensures.put)
+    c.in_ok-block.ensures.read.moves.reads c.in_ok-block.ensures.read.made (ap (λ o. option_map copy_of o) c.requires.absent) (ap (λ o. option_map copy_of o) c.put.ensures.put)
     (same_as c.args.self.now c.self.inside.root c.self.inside.nodes c.put.new.self c.self.view_is c.args.level c.args.index c.put.ensures.same)
     (λ calm. came_in g c calm.0 calm.1)
 
@@ -78,6 +80,21 @@ returns-clause-kept g c =
     kept_at c.args.level c.args.index c.args.self.now (tree_of c.self.inside.root c.put.new.self) (record { block = c.in_ok-block.block; changed = false })
     (ap (λ o. option_map copy_of o) c.put.ensures.put)
     (same_as c.args.self.now c.self.inside.root c.self.inside.nodes c.put.new.self c.self.view_is c.args.level c.args.index c.put.ensures.same)
+
+pub returns-clause-had : goal.returns-clause-had
+returns-clause-had g c =
+    let are : AreNodeCaches c.args.self.now.geometry c.args.self.now.caches =
+    subst (λ (v : TreeView). AreNodeCaches v.geometry v.caches) c.self.view_is c.self.invariant in
+    record {
+      added =
+          put_here c.args.self.now (tree_of c.self.inside.root c.put.new.self) c.args.level (are.each c.args.level c.requires.above c.requires.node.0)
+          (others_as c.args.self.now c.self.inside.root c.self.inside.nodes c.put.new.self c.self.view_is c.args.level c.put.ensures.others) c.args.index
+          c.in_ok-block.block c.requires.absent
+          (subst (λ (v : TreeView). level_cache c.put.new.self.caches c.args.level ≡ with_new (level_cache v.caches c.args.level) c.args.index c.in_ok-block.block) c.self.view_is
+          c.put.ensures.after);
+      once = c.in_ok-block.ensures.read.one;
+      alone = c.in_ok-block.ensures.read.alone;
+    }
 
 pub returns-in_err-block-clause-makes : goal.returns-in_err-block-clause-makes
 returns-in_err-block-clause-makes g c =

@@ -1,5 +1,6 @@
-use Rattle.std.proofs.Common.{◌≡◌, ◌⊎◌, inl, inr, ℕ, ◌+◌, ◌/◌, ◌≤◌, List, [], ◌∷◌, ◌++◌, Option, Some, None, ap, sym, ◌∙◌, subst, arith, rules}
+use Rattle.std.proofs.Common.{◌≡◌, ◌⊎◌, inl, inr, ℕ, ◌+◌, ◌/◌, ◌≤◌, List, [], ◌∷◌, ◌++◌, Option, Some, None, refl, ap, sym, ◌∙◌, subst, arith, rules}
 use Rattle.std.specs.Result.{result_err}
+use Rattle.std.proofs.lemmas.List.Elements.{Contains-push}
 use Rattle.sec_base.specs.Geometry.{GeometryView, IsNode, arity}
 use Rattle.sec_base.specs.declared.message.Message.{Message}
 use Rattle.sec_base.specs.declared.message.Message.TheVariants.{Node}
@@ -13,10 +14,13 @@ use Rattle.tag_engine.specs.TagEngine.{TagEngineView, tags_of}
 use Rattle.checked_bus.specs.Makes.{Makes}
 use Rattle.bonsai_tree.specs.Climb.{Climbs, IsBlockOf}
 use Rattle.bonsai_tree.specs.Node.{level_blocks}
+use Rattle.bonsai_tree.specs.NodesHad.{since}
 use Rattle.bonsai_tree.specs.Tree.{GoesOutFor, HoldsTree, IsMarked, IsNodeFrom}
 use Rattle.bonsai_tree.specs.TreeCall.{TreeCall}
 use Rattle.bonsai_tree.proofs.Climbs.{climbs_on, climbs_up, unmade_before}
 use Rattle.bonsai_tree.proofs.LevelBlocks.{blocks_after}
+use Rattle.bonsai_tree.proofs.NodesHad.{had_still}
+use Rattle.bonsai_tree.proofs.NodesJoined.{climb_made, nodes_wider, since_after, since_before}
 use Rattle.bonsai_tree.proofs.OutFor.{out_kept, out_on}
 use Rattle.bonsai_tree.proofs.PathCalls.{page_node, path_more, stop_of_err, updated_read}
 use Rattle.bonsai_tree.proofs.Views.{latest_cached}
@@ -215,7 +219,7 @@ returns-in_err-parent_present-clause-called g c =
     climbs c.in_err-parent_present.ensures.nodes c.in_err-parent_present.ensures.back.back
     (omega (arith, c.in_err-parent_present.ensures.once, path_more c.args.self.now.geometry.levels))
     (omega (arith, c.in_err-parent_present.ensures.few, path_more c.args.self.now.geometry.levels))
-    climbs.tampered climbs.found (λ holds quiet going. absurd (cc)))
+    climbs.tampered climbs.found (λ holds quiet going. absurd (cc)) (λ going. absurd (cc)))
 
 pub returns-in_err-write_below-clause-called : goal.returns-in_err-write_below-clause-called
 returns-in_err-write_below-clause-called g c =
@@ -228,7 +232,8 @@ returns-in_err-write_below-clause-called g c =
     (whole_refused g c) (c.in_err-write_below.ensures.climbs.nodes c.in_ok-parent_present.ensures.nodes) nodes.back
     (omega (arith, c.in_ok-parent_present.ensures.once, c.in_err-write_below.ensures.once, path_more c.args.self.now.geometry.levels))
     (omega (arith, c.in_ok-parent_present.ensures.few, c.in_err-write_below.ensures.few, path_more c.args.self.now.geometry.levels))
-    (λ place is. absurd (cc)) (λ quiet evidence is. c.in_ok-parent_present.ensures.climbs.found quiet evidence (sym c.in_err-write_below.ensures.quiet ∙ is)) (λ holds quiet going. absurd (cc)))
+    (λ place is. absurd (cc)) (λ quiet evidence is. c.in_ok-parent_present.ensures.climbs.found quiet evidence (sym c.in_err-write_below.ensures.quiet ∙ is)) (λ holds quiet going. absurd (cc))
+    (λ going. absurd (cc)))
 
 -- what copies go out for
 goes_out : (g : Over) (c : goal.In_ok-write_below g) → HoldsTree (tags_of g.T.Tagger.data_tag_of g.T.Tagger.node_tag_of) c.args.self.now (g.B.Bus.history c.args.bus.now) c.args.tags.now → c.write_below.new.tags.evidence ≡ None →
@@ -243,6 +248,10 @@ goes_out g c holds quiet =
 
 pub returns-clause-called : goal.returns-clause-called
 returns-clause-called g c =
+    let geometry = c.args.self.now.geometry in
+    let made = c.args.tags.now.made in
+    let parent = c.in_ok-parent_present.ensures.climbs.moves in
+    let own : List Message = Node 0 c.args.page c.args.block.now ∷ [] in
     let nodes =
     up_climbed g.T.Tagger.data_tag_of g.T.Tagger.node_tag_of 1 1 (IsBlockOf 0 c.args.page c.args.block.now) c.args.self.now c.parent_present.new.self c.write_below.new.self (g.B.Bus.history c.args.bus.now) (g.B.Bus.history c.parent_present.new.bus) (g.B.Bus.history c.write_below.new.bus) c.args.tags.now c.parent_present.new.tags c.write_below.new.tags None
     c.in_ok-parent_present.ensures.climbs c.in_ok-write_below.ensures.climbs.moves c.in_ok-parent_present.ensures.back c.in_ok-write_below.ensures.back in
@@ -252,3 +261,11 @@ returns-clause-called g c =
     (omega (arith, c.in_ok-parent_present.ensures.few, c.in_ok-write_below.ensures.few, path_more c.args.self.now.geometry.levels))
     (λ place is. absurd (cc)) (λ quiet evidence is. c.in_ok-parent_present.ensures.climbs.found quiet evidence (sym c.in_ok-write_below.ensures.quiet ∙ is))
     (λ holds quiet going. goes_out g c holds quiet)
+    (λ going. had_still _ 1 c.args.self.now c.parent_present.new.self c.write_below.new.self (g.B.Bus.history c.args.bus.now) (g.B.Bus.history c.parent_present.new.bus) (g.B.Bus.history c.write_below.new.bus)
+    (nodes_wider _ _ 1 c.args.self.now c.parent_present.new.self (g.B.Bus.history c.args.bus.now) (g.B.Bus.history c.parent_present.new.bus)
+    (λ level index high may. inr (climb_made geometry geometry (since made c.parent_present.new.tags.made) (since made c.write_below.new.tags.made) refl
+    (since_before made c.parent_present.new.tags.made c.write_below.new.tags.made parent.more own parent.made c.in_ok-write_below.ensures.made)
+    0 c.args.page c.args.block.now
+    (since_after made c.parent_present.new.tags.made c.write_below.new.tags.made parent.more own parent.made c.in_ok-write_below.ensures.made
+    (Node 0 c.args.page c.args.block.now) (Contains-push [] (Node 0 c.args.page c.args.block.now))) level index high may))
+    c.in_ok-parent_present.ensures.had.had) c.in_ok-write_below.ensures.orders (λ level index high. ap (λ (f : Place → ℕ). f (node_place level index)) c.in_ok-write_below.ensures.reads))

@@ -153,7 +153,7 @@ returns-in_err-tag-clause-back g c =
     subst (λ (s : Option MemStop). WritesUp (EndsQuietly (tags_of g.T.Tagger.data_tag_of g.T.Tagger.node_tag_of) c.args.self.now (g.B.Bus.history c.args.bus.now) c.args.tags.now c.write_node.new.tags) (c.args.level + 1) (IsBlockOf c.args.level c.args.index c.args.block.now) c.args.self.now (g.B.Bus.history c.args.bus.now) c.args.tags.now.made c.args.self.now (g.B.Bus.history c.write_node.new.bus) c.write_node.new.tags.made s) (sym stop)
     (up_made _ c.args.level c.args.index c.args.block.now c.args.self.now c.args.self.now (g.B.Bus.history c.args.bus.now) (g.B.Bus.history c.write_node.new.bus) c.args.tags.now.made c.write_node.new.tags.made (Some NoMemory)
     c.in_err-tag.ensures.moves.reads
-    (made_one g.T.Tagger.data_tag_of g.T.Tagger.node_tag_of c.args.self.now c.args.self.now c.args.level c.args.index c.args.block.now [] (g.B.Bus.history c.args.bus.now) (g.B.Bus.history c.write_node.new.bus) c.args.tags.now c.reserve.new.self c.write_node.new.tags c.in_ok-reserve.ensures.taken write) (λ other at apart. refl) (λ other at held. held))
+    (made_one g.T.Tagger.data_tag_of g.T.Tagger.node_tag_of c.args.self.now c.args.self.now c.args.level c.args.index c.args.block.now [] (g.B.Bus.history c.args.bus.now) (g.B.Bus.history c.write_node.new.bus) c.args.tags.now c.reserve.new.self c.write_node.new.tags c.in_ok-reserve.ensures.taken write) (λ other at apart. refl) (λ other at held. held) (λ marked. marked))
 
 pub returns-clause-back : goal.returns-clause-back
 returns-clause-back g c =
@@ -170,6 +170,7 @@ returns-clause-back g c =
     } in
     up_made _ c.args.level c.args.index c.args.block.now c.args.self.now c.keep_tag.new.self (g.B.Bus.history c.args.bus.now) (g.B.Bus.history c.write_node.new.bus) c.args.tags.now.made c.write_node.new.tags.made None
     c.in_ok-tag.ensures.moves.reads (returns-clause-made g c) puts.same (puts_held c.args.self.now c.keep_tag.new.self c.args.level c.args.index c.in_ok-tag.tag puts)
+    (λ was. ap (option_map (λ (copy : CachedNode). copy.changed)) puts.put)
 
 pub returns-clause-marked : goal.returns-clause-marked
 returns-clause-marked g c =
