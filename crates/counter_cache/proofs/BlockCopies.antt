@@ -3,6 +3,7 @@ use Rattle.std.proofs.Common.{◌≡◌, ◌≢◌, ◌⊎◌, inl, inr, ℕ, �
 use Rattle.std.specs.List.{Contains}
 use Rattle.std.specs.Option.{option_map}
 use Rattle.std.proofs.lemmas.Bool.{cases_eq}
+use Rattle.std.proofs.lemmas.Option.{none-some, same_Some}
 use Rattle.sec_base.specs.Geometry.{GeometryView, page_count}
 use Rattle.sec_base.specs.declared.message.Message.{Message}
 use Rattle.cache_set.specs.declared.way.Way.{Way}
@@ -13,7 +14,7 @@ use Rattle.cache_set.proofs.Sets.{few_in}
 use Rattle.bonsai_tree.specs.Node.{CachedNode, level_blocks}
 use Rattle.bonsai_tree.specs.NodeCache.{copy_of}
 use Rattle.bonsai_tree.proofs.Views.{some_copy}
-use Rattle.counter_cache.specs.Counters.{AreBlocks, CountersView, OnlyLeavingIsMade, block_sets, cached_block, cached_pages, leaving_page, most_blocks}
+use Rattle.counter_cache.specs.Counters.{AreBlocks, CountersView, LeavingIsMade, OnlyLeavingIsMade, block_sets, cached_block, cached_pages, leaving_page, most_blocks}
 
 module _ (geometry : GeometryView) (blocks blocks' : List (List Way)) (are : AreBlocks geometry blocks) (cache : IsCache block_sets blocks') where
   pub blocks_same : ((page : ℕ) → way_at blocks' page ≡ way_at blocks page) → AreBlocks geometry blocks'
@@ -55,11 +56,6 @@ blocks_left geometry blocks blocks' page are cache gone same = record {
   ];
 }
 
--- a place without a way is not one that has a way
-pub apart_from : (blocks : List (List Way)) (page other : ℕ) (way : Way) → way_at blocks page ≡ None → way_at blocks other ≡ Some way → page ≢ other
-apart_from blocks page other way none some same =
-    let both : None ≡ Some way = sym none ∙ ap (λ (p : ℕ). way_at blocks p) same ∙ some in absurd (cc)
-
 -- The pages that have a copy
 
 copied_some : (found : Option Way) → option_map copy_of found ≢ None → IsSome found
@@ -92,19 +88,43 @@ pages_inside geometry geometry' blocks same are page listed =
 
 -- Which blocks were made
 
--- the block of the way that goes out, or none
+-- the block of the way that goes out
+pub victim_is : (counters : CountersView) (page : ℕ) (way : Way) (made made' : List Message) → leaving_page counters page ≡ Some way.place →
+    way_at counters.blocks way.place ≡ Some way → way.changed ≡ true → level_blocks 0 made' ≡ level_blocks 0 made ++ (way.place, way.copy) ∷ [] →
+    LeavingIsMade counters page made made'
+victim_is counters page way made made' leaves held changed one =
+    let copy : Bool → Option CachedNode = λ mark. Some (record { block = way.copy; changed = mark }) in
+    record { other = way.place; block = way.copy; leaves = leaves; changed = ap (option_map copy_of) held ∙ ap (λ (mark : Bool). copy mark) changed; one = one }
+
+-- a changed copy that is gone is its
+pub victim_gone : (counters : CountersView) (blocks' : List (List Way)) (page : ℕ) (way : Way) (made made' : List Message) → leaving_page counters page ≡ Some way.place →
+    way_at counters.blocks way.place ≡ Some way → ((other : ℕ) → other ≢ way.place → way_at blocks' other ≡ way_at counters.blocks other) →
+    (way.changed ≡ true → level_blocks 0 made' ≡ level_blocks 0 made ++ (way.place, way.copy) ∷ []) →
+    (other : ℕ) (copy : CachedNode) → cached_block counters other ≡ Some copy → copy.changed ≡ true → option_map copy_of (way_at blocks' other) ≡ None →
+    LeavingIsMade counters page made made'
+victim_gone counters blocks' page way made made' leaves held same one other copy found changed gone = elim (cases_eq other way.place) [
+  | inr apart ↦ absurd (none-some copy (sym gone ∙ ap (option_map copy_of) (same other apart) ∙ found))
+  | inl here ↦
+      let is : copy_of way ≡ copy = same_Some (copy_of way) copy (sym (ap (λ (p : ℕ). cached_block counters p) here ∙ ap (option_map copy_of) held) ∙ found) in
+      let marked : way.changed ≡ true = ap (λ (c : CachedNode). c.changed) is ∙ changed in
+      victim_is counters page way made made' leaves held marked (one marked)
+]
+
+-- the block of the way that goes out is made, or none
 pub victim_made : (counters : CountersView) (page : ℕ) (way : Way) (made made' : List Message) → leaving_page counters page ≡ Some way.place →
     way_at counters.blocks way.place ≡ Some way →
     (level_blocks 0 made' ≡ level_blocks 0 made) ⊎ ((way.changed ≡ true) × (level_blocks 0 made' ≡ level_blocks 0 made ++ (way.place, way.copy) ∷ [])) →
     OnlyLeavingIsMade counters page made made'
 victim_made counters page way made made' leaves held (inl same) = inl same
-victim_made counters page way made made' leaves held (inr one) =
-    let copy : Bool → Option CachedNode = λ mark. Some (record { block = way.copy; changed = mark }) in
-    inr (record { other = way.place; block = way.copy; leaves = leaves; changed = ap (option_map copy_of) held ∙ ap (λ (mark : Bool). copy mark) one.0; one = one.1 })
+victim_made counters page way made made' leaves held (inr one) = inr (victim_is counters page way made made' leaves held one.0 one.1)
 
 -- and then none
+pub leaving_on : (counters : CountersView) (page : ℕ) (made made' made'' : List Message) → level_blocks 0 made'' ≡ level_blocks 0 made' →
+    LeavingIsMade counters page made made' → LeavingIsMade counters page made made''
+leaving_on counters page made made' made'' same one =
+    record { other = one.other; block = one.block; leaves = one.leaves; changed = one.changed; one = same ∙ one.one }
+
 pub none_made_on : (counters : CountersView) (page : ℕ) (made made' made'' : List Message) → level_blocks 0 made'' ≡ level_blocks 0 made' →
     OnlyLeavingIsMade counters page made made' → OnlyLeavingIsMade counters page made made''
 none_made_on counters page made made' made'' same (inl none) = inl (same ∙ none)
-none_made_on counters page made made' made'' same (inr one) =
-    inr (record { other = one.other; block = one.block; leaves = one.leaves; changed = one.changed; one = same ∙ one.one })
+none_made_on counters page made made' made'' same (inr one) = inr (leaving_on counters page made made' made'' same one)

@@ -13,10 +13,8 @@ use Rattle.bus_model.specs.BusHistory.{BusHistory}
 use Rattle.tag_engine.proofs.LastPlaces.{node_part-other}
 use Rattle.bonsai_tree.specs.Node.{CachedNode, level_blocks}
 use Rattle.bonsai_tree.specs.Tree.{NodeCame}
-use Rattle.bonsai_tree.proofs.Climbs.{copy_or_not}
 use Rattle.bonsai_tree.proofs.LevelBlocks.{block_listed, blocks-append}
-use Rattle.counter_cache.specs.Counters.{BlocksCameUnlessHeld, CameFrom, CountersView, OnlyLeavingIsMade, cached_block, cached_pages, leaving_page}
-use Rattle.counter_cache.proofs.BlockCopies.{held_cached}
+use Rattle.counter_cache.specs.Counters.{BlocksCameUnlessHeld, CameFrom, CountersView, OnlyLeavingIsMade, cached_block, leaving_page}
 
 none_listed : (x : ℕ × List ℕ) → ¬ Contains [] x
 none_listed x listed = omega (arith, listed.1)
@@ -89,23 +87,17 @@ module _ (counters counters' : CountersView) (page : ℕ) (made made' more : Lis
   own_came none (inl unmade) = inl (own_last none ∙ unmade)
   own_came none (inr rose) = inr rose
 
-  own : (Contains (cached_pages counters) page → made' ≡ made) → (cached_block counters page ≢ None) ⊎ CameFrom made old new page →
-      ((cached_block counters page ≢ None) × (last_node 0 page made' ≡ last_node 0 page made)) ⊎ NodeCame made' 0 page old new
-  own hit (inl was) = inl (was, ap (λ (m : List Message). last_node 0 page m) (hit (held_cached counters page was)))
-  own hit (inr came) = elim (copy_or_not (cached_block counters page)) [
-    | inl none ↦ inr (own_came none came)
-    | inr was ↦ inl (was, ap (λ (m : List Message). last_node 0 page m) (hit (held_cached counters page was)))
-  ]
-
-  pub blocks_came : (Contains (cached_pages counters) page → made' ≡ made) →
-      ((other : ℕ) → leaving_page counters page ≡ Some other → cached_block counters' other ≡ None) →
+  pub blocks_came : cached_block counters page ≡ None → ((other : ℕ) → leaving_page counters page ≡ Some other → cached_block counters' other ≡ None) →
       ((other : ℕ) → other ≢ page → leaving_page counters page ≢ Some other → cached_block counters' other ≡ cached_block counters other) →
       (cached_block counters' page ≢ None → (cached_block counters page ≢ None) ⊎ CameFrom made old new page) →
       BlocksCameUnlessHeld counters old made counters' new made'
-  blocks_came hit goes stays copied = λ other held. elim (cases_eq other page) [
+  blocks_came none goes stays copied = λ other held. elim (cases_eq other page) [
     | inl here ↦
-        subst (λ (p : ℕ). ((cached_block counters p ≢ None) × (last_node 0 p made' ≡ last_node 0 p made)) ⊎ NodeCame made' 0 p old new) (sym here)
-        (own hit (copied (subst (λ (p : ℕ). cached_block counters' p ≢ None) here held)))
+        let page_held : cached_block counters' page ≢ None = subst (λ (p : ℕ). cached_block counters' p ≢ None) here held in
+        elim (copied page_held) [
+          | inl was ↦ absurd (was none)
+          | inr came ↦ inr (subst (λ (p : ℕ). NodeCame made' 0 p old new) (sym here) (own_came none came))
+        ]
     | inr apart ↦ elim (leaves_or_not (leaving_page counters page) other) [
       | inl leaves ↦ absurd (held (goes other leaves))
       | inr stay ↦ inl (subst (λ (o : Option CachedNode). o ≢ None) (stays other apart stay) held, stays_last other stay)

@@ -1,30 +1,28 @@
 -- Calls that have a block on the chip, one after another, and how they are made of calls of the tree and of changes of copies.
-use Rattle.std.proofs.Common.{◌≡◌, ◌≢◌, ◌⊎◌, inl, inr, ℕ, ◌+◌, ◌≤◌, true, false, List, ◌++◌, length, Option, Some, None, refl, ap, sym, ◌∙◌, subst, arith, length-append}
+use Rattle.std.proofs.Common.{◌≡◌, ◌≢◌, ◌⊎◌, inl, inr, ℕ, ◌+◌, ◌≤◌, true, false, List, Option, Some, None, refl, ap, sym, ◌∙◌, subst, arith}
 use Rattle.std.specs.List.{Contains}
+use Rattle.std.specs.Option.{option_map}
 use Rattle.std.proofs.lemmas.Bool.{cases_eq}
-use Rattle.sec_base.specs.Count.{Rose, RoseBy}
-use Rattle.sec_base.specs.Evidence.{evidence_place}
+use Rattle.sec_base.specs.Count.{RoseBy}
 use Rattle.sec_base.specs.LastMessage.{last_node}
-use Rattle.sec_base.specs.declared.evidence.Evidence.{Evidence}
 use Rattle.sec_base.specs.declared.message.Message.{Message}
 use Rattle.sec_base.specs.declared.place.Place.{Place}
 use Rattle.sec_base.specs.declared.place.Place.TheVariants.{Node as node_place}
 use Rattle.sec_base.specs.declared.stop.MemStop.{MemStop}
 use Rattle.sec_base.specs.declared.stop.MemStop.TheVariants.{NoMemory}
-use Rattle.sec_base.proofs.Results.{was_none, some_or_none}
+use Rattle.sec_base.proofs.Results.{was_none}
+use Rattle.cache_set.specs.declared.way.Way.{Way}
+use Rattle.cache_set.specs.Cache.{way_at}
 use Rattle.bus_model.specs.BusHistory.{BusHistory}
 use Rattle.tag_engine.specs.TagEngine.{TagEngineView, tags_of}
-use Rattle.checked_bus.specs.Accesses.{WritesMessages}
-use Rattle.checked_bus.specs.Steps.{IsAccounted, Moves, unwritten_in}
-use Rattle.checked_bus.proofs.Steps.{moves_not, moves_on, same_lines_not, same_lines_on}
-use Rattle.checked_bus.proofs.Writes.{writes_on}
 use Rattle.split_counter.specs.CounterBlock.{block_of}
 use Rattle.bonsai_tree.specs.Node.{CachedNode, block_or_zeros, current_of, page_block, path_index}
-use Rattle.bonsai_tree.specs.TreeCall.{TreeCall}
-use Rattle.bonsai_tree.specs.Tree.{HasFewNodes, HoldsTree, IsFetchPlace, IsNodeFrom, NodeCame, NodesAreMade, NodesHoldLast, PathWasRead, SlotsAreTags, TreeView, WasReadUp, above, cached_node}
-use Rattle.bonsai_tree.proofs.Climbs.{came_after, came_before, read_up_held, read_up_on, unchanged_writes, unless_held_on, unmade_before}
-use Rattle.bonsai_tree.proofs.Nodes.{same_tags, some_not_none}
+use Rattle.bonsai_tree.specs.NodeCache.{copy_of}
+use Rattle.bonsai_tree.specs.TreeSteps.{TreeSteps}
+use Rattle.bonsai_tree.specs.Tree.{HoldsTree, IsFetchPlace, IsNodeFrom, NodeCame, PathWasRead, TreeView, WasReadUp, above, cached_node}
+use Rattle.bonsai_tree.proofs.Climbs.{came_after, came_before, read_up_on, unmade_before}
 use Rattle.bonsai_tree.proofs.PathCalls.{not_from_one}
+use Rattle.bonsai_tree.proofs.TreeSteps.{steps_not, steps_on, steps_where}
 use Rattle.counter_cache.specs.Counters.{AreBlocks, CameFrom, CountersView, HoldsCounters, SameCounters, cached_block, cached_pages, counters_in, current_page}
 use Rattle.counter_cache.specs.Having.{Has}
 use Rattle.counter_cache.proofs.BlockCopies.{cached_held, held_cached}
@@ -58,27 +56,10 @@ module _ {T : Type 0} (d n : T → List ℕ → List ℕ) (Where : Place → Typ
   pub has_not : (counters : CountersView) (history : BusHistory) (engine : TagEngineView T) →
       Has (tags_of d n) Where counters history engine counters history engine None
   has_not counters history engine = record {
-    moves = moves_not history engine;
-    lines = same_lines_not history engine.made;
-    geometry = refl;
-    root = refl;
+    tree = steps_not d n Where counters.tree history engine;
     blocks = λ are. are;
-    few_nodes = λ few. few;
     holds = λ holds memory. holds;
     same = λ holds quiet page. refl;
-    honest = λ holds used was. was;
-    lied = λ holds quiet place is. absurd (cc);
-    shown = λ holds quiet some. absurd (some quiet);
-    tampered = λ place is. absurd (cc);
-    found = λ quiet evidence is. absurd (cc);
-    unspent = λ spent is. absurd (cc);
-    writes = unchanged_writes history engine;
-    made_blocks = λ was. was;
-    last_blocks = λ remembered was. was;
-    slots = λ holds quiet tagged. tagged;
-    read = λ holds quiet level index held. read_up_held counters.tree engine.made level index history history held;
-    came = λ holds quiet memory level index held. inl (held, refl);
-    unread = λ holds quiet level index none. refl;
     copied = λ holds quiet page held. inl held;
   }
 
@@ -87,121 +68,37 @@ module _ {T : Type 0} (d n : T → List ℕ → List ℕ) (Where : Place → Typ
       Has (tags_of d n) Where counters first engine mid second engine' None → Has (tags_of d n) Where mid second engine' counters' third engine'' stop →
       Has (tags_of d n) Where counters first engine counters' third engine'' stop
   has_on counters mid counters' first second third engine engine' engine'' stop has more =
-      let tags : tags_of d n engine' ≡ tags_of d n engine = same_tags d n first second engine engine' has.moves in
-      let moves : Moves first engine third engine'' = moves_on first second third engine engine' engine'' has.moves more.moves in
-      let long : length moves.more ≡ length has.moves.more + length more.moves.more =
-      omega (
-        arith,
-        ap length moves.made,
-        ap length has.moves.made,
-        ap length more.moves.made,
-        length-append engine.made moves.more,
-        length-append engine.made has.moves.more,
-        length-append engine'.made more.moves.more,
-      ) in
+      let before : engine''.evidence ≡ None → engine'.evidence ≡ None = was_none engine'.evidence engine''.evidence more.tree.moves.evidence in
       record {
-        moves = moves;
-        lines = same_lines_on first second third engine.made engine'.made engine''.made has.lines more.lines;
-        geometry = more.geometry ∙ has.geometry;
-        root = more.root ∙ has.root;
+        tree = steps_on d n Where counters.tree mid.tree counters'.tree first second third engine engine' engine'' stop has.tree more.tree;
         blocks = λ are. more.blocks (has.blocks are);
-        few_nodes = λ few. more.few_nodes (has.few_nodes few);
         holds = λ holds memory. more.holds (has.holds holds going) memory;
-        same = λ holds quiet page.
-            more.same (has.holds holds going) quiet page
-            ∙ has.same holds (was_none engine'.evidence engine''.evidence more.moves.evidence quiet) page;
-        honest = λ holds used was.
-            subst (λ (t : Message → List ℕ). IsAccounted t used engine''.made third stop engine''.evidence) tags
-            (more.honest (has.holds holds going) used
-            (subst (λ (t : Message → List ℕ). IsAccounted t used engine'.made second None engine'.evidence) (sym tags) (has.honest holds used was)));
-        lied = λ holds quiet place is.
-            elim (some_or_none engine'.evidence) [
-              | inl still ↦
-                  let rose : Rose second.lies third.lies = more.lied (has.holds holds going) still place is in
-                  omega (arith, rose, has.moves.lies)
-              | inr shown ↦
-                  let rose : Rose first.lies second.lies = has.shown holds quiet (some_not_none engine'.evidence shown.0 shown.1) in
-                  omega (arith, rose, more.moves.lies)
-            ];
-        shown = λ holds quiet some.
-            elim (some_or_none engine'.evidence) [
-              | inl still ↦
-                  let rose : Rose second.lies third.lies = more.shown (has.holds holds going) still some in
-                  omega (arith, rose, has.moves.lies)
-              | inr shown ↦
-                  let rose : Rose first.lies second.lies = has.shown holds quiet (some_not_none engine'.evidence shown.0 shown.1) in
-                  omega (arith, rose, more.moves.lies)
-            ];
-        tampered = λ place is. more.tampered place is;
-        found = λ quiet evidence is.
-            elim (some_or_none engine'.evidence) [
-              | inl still ↦ more.found still evidence is
-              | inr shown ↦
-                  let kept : engine''.evidence ≡ Some shown.0 = more.moves.evidence shown.0 shown.1 in
-                  let same : shown.0 ≡ evidence = cc in
-                  subst (λ (e : Evidence). Where (evidence_place e)) same (has.found quiet shown.0 shown.1)
-            ];
-        unspent = more.unspent;
-        writes = subst (λ (k : ℕ). WritesMessages first third k (unwritten_in stop)) (sym long)
-            (writes_on first second third (length has.moves.more) (length more.moves.more) (unwritten_in stop)
-            more.moves.bus_geometry more.moves.reads more.moves.accesses has.writes more.writes);
-        made_blocks = λ was.
-            subst (λ (k : GeometryView). NodesAreMade k engine''.made third.written) has.geometry
-            (more.made_blocks (subst (λ (k : GeometryView). NodesAreMade k engine'.made second.written) (sym has.geometry) (has.made_blocks was)));
-        last_blocks = λ remembered was.
-            subst (λ (k : GeometryView). NodesHoldLast k engine''.made third.written) has.geometry
-            (more.last_blocks remembered (subst (λ (k : GeometryView). NodesHoldLast k engine'.made second.written) (sym has.geometry) (has.last_blocks going was)));
-        slots = λ holds quiet tagged.
-            let still : engine'.evidence ≡ None = was_none engine'.evidence engine''.evidence more.moves.evidence quiet in
-            subst (λ (t : Message → List ℕ). SlotsAreTags t counters.tree.geometry engine''.made) tags
-            (subst (λ (k : GeometryView). SlotsAreTags (tags_of d n engine') k engine''.made) has.geometry
-            (more.slots (has.holds holds going) quiet
-            (subst (λ (k : GeometryView). SlotsAreTags (tags_of d n engine') k engine'.made) (sym has.geometry)
-            (subst (λ (t : Message → List ℕ). SlotsAreTags t counters.tree.geometry engine'.made) (sym tags) (has.slots holds still tagged)))));
-        read = λ holds quiet level index held.
-            let still : engine'.evidence ≡ None = was_none engine'.evidence engine''.evidence more.moves.evidence quiet in
-            read_up_on counters.tree mid.tree engine.made engine'.made level index first second third has.geometry has.moves.reads more.moves.reads
-            (unmade_before engine.made engine'.made has.moves.more has.moves.made) (has.read holds still)
-            (more.read (has.holds holds going) quiet level index held);
-        came = λ holds quiet memory.
-            let still : engine'.evidence ≡ None = was_none engine'.evidence engine''.evidence more.moves.evidence quiet in
-            unless_held_on counters.tree mid.tree counters'.tree engine.made engine'.made engine''.made first second third has.moves.reads more.moves.reads
-            (has.came holds still going) (more.came (has.holds holds going) quiet memory);
-        unread = λ holds quiet level index none.
-            let still : engine'.evidence ≡ None = was_none engine'.evidence engine''.evidence more.moves.evidence quiet in
-            more.unread (has.holds holds going) quiet level index none
-            ∙ has.unread holds still level index (unmade_before engine'.made engine''.made more.moves.more more.moves.made level index none);
-        copied = λ holds quiet page held.
-            let still : engine'.evidence ≡ None = was_none engine'.evidence engine''.evidence more.moves.evidence quiet in
-            elim (more.copied (has.holds holds going) quiet page held) [
-              | inl was ↦ elim (has.copied holds still page was) [
-                | inl before ↦ inl before
-                | inr came ↦ inr (came.0, came_before engine.made 0 page first second third more.moves.reads came.1)
-              ]
-              | inr came ↦ inr (
-                came.0,
-                came_after engine.made engine'.made 0 page first second third has.moves.reads
-                    (unmade_before engine.made engine'.made has.moves.more has.moves.made 0 page) came.1,
-              )
-            ];
+        same = λ holds quiet page. more.same (has.holds holds going) quiet page ∙ has.same holds (before quiet) page;
+        copied = λ holds quiet page held. elim (more.copied (has.holds holds going) quiet page held) [
+          | inl was ↦ elim (has.copied holds (before quiet) page was) [
+            | inl early ↦ inl early
+            | inr came ↦ inr (came.0, came_before engine.made 0 page first second third more.tree.moves.reads came.1)
+          ]
+          | inr came ↦ inr (
+            came.0,
+            came_after engine.made engine'.made 0 page first second third has.tree.moves.reads
+                (unmade_before engine.made engine'.made has.tree.moves.more has.tree.moves.made 0 page) came.1,
+          )
+        ];
       }
 
   -- a call of the tree, which leaves the copies and the last blocks of pages that have no changed copy
   pub has_tree : (counters : CountersView) (tree' : TreeView) (old new : BusHistory) (engine engine' : TagEngineView T) (stop : Option MemStop) →
-      TreeCall (tags_of d n) Where counters.tree old engine tree' new engine' stop →
+      TreeSteps (tags_of d n) Where counters.tree old engine tree' new engine' stop →
       ((page : ℕ) → IsUnchanged counters page → last_node 0 page engine'.made ≡ last_node 0 page engine.made) →
       Has (tags_of d n) Where counters old engine (over tree' counters) new engine' stop
-  has_tree counters tree' old new engine engine' stop call kept = record {
-    moves = call.moves;
-    lines = call.lines;
-    geometry = call.geometry;
-    root = call.root;
-    blocks = λ are. subst (λ (k : GeometryView). AreBlocks k counters.blocks) (sym call.geometry) are;
-    few_nodes = λ few. call.few_nodes;
+  has_tree counters tree' old new engine engine' stop steps kept = record {
+    tree = steps;
+    blocks = λ are. subst (λ (k : GeometryView). AreBlocks k counters.blocks) (sym steps.geometry) are;
     holds = λ holds memory. record {
-      tree = call.holds holds.tree memory;
+      tree = steps.holds holds.tree memory;
       clean = λ quiet page copy found unchanged.
-          let was : engine.evidence ≡ None = was_none engine.evidence engine'.evidence call.moves.evidence quiet in
+          let was : engine.evidence ≡ None = was_none engine.evidence engine'.evidence steps.moves.evidence quiet in
           let same : last_node 0 page engine'.made ≡ last_node 0 page engine.made =
           kept page (λ other is. let one : other ≡ copy = cc in ap (λ (c : CachedNode). c.changed) one ∙ unchanged) in
           holds.clean was page copy found unchanged ∙ sym (ap (λ (o : Option (List ℕ)). block_or_zeros o) same);
@@ -209,155 +106,106 @@ module _ {T : Type 0} (d n : T → List ℕ → List ℕ) (Where : Place → Typ
     same = λ holds quiet page.
         ap (λ (b : List ℕ). block_of b) (current_same (cached_block counters page) (last_node 0 page engine.made) (last_node 0 page engine'.made)
         (λ none. kept page (none_unchanged (cached_block counters page) none)));
-    honest = λ holds. call.honest holds.tree;
-    lied = λ holds. call.lied holds.tree;
-    shown = λ holds. call.shown holds.tree;
-    tampered = call.tampered;
-    found = call.found;
-    unspent = call.unspent;
-    writes = call.writes call.moves.more call.moves.made;
-    made_blocks = call.made_blocks;
-    last_blocks = call.last_blocks;
-    slots = λ holds. call.slots holds.tree;
-    read = λ holds. call.read holds.tree;
-    came = λ holds. call.came holds.tree;
-    unread = λ holds. call.unread holds.tree;
     copied = λ holds quiet page held. inl held;
   }
 
   -- a change of copies alone
-  pub has_recached : (counters counters' : CountersView) (history : BusHistory) (engine : TagEngineView T) → counters'.tree ≡ counters.tree →
-      (AreBlocks counters.tree.geometry counters.blocks → AreBlocks counters.tree.geometry counters'.blocks) →
+  has_recached : (counters : CountersView) (blocks' : List (List Way)) (history : BusHistory) (engine : TagEngineView T) →
+      let after : CountersView = record { tree = counters.tree; blocks = blocks' } in
+      AreBlocks counters.tree.geometry blocks' →
       (HoldsCounters (tags_of d n) counters history engine → engine.evidence ≡ None → (page : ℕ) →
-      current_page counters' engine.made page ≡ current_page counters engine.made page) →
-      ((page : ℕ) (copy : CachedNode) → cached_block counters' page ≡ Some copy → cached_block counters page ≡ Some copy) →
-      Has (tags_of d n) Where counters history engine counters' history engine None
-  has_recached counters counters' history engine tree are same fewer = record {
-    moves = moves_not history engine;
-    lines = same_lines_not history engine.made;
-    geometry = ap (λ (t : TreeView). t.geometry) tree;
-    root = ap (λ (t : TreeView). t.root) tree;
-    blocks = λ was. subst (λ (k : GeometryView). AreBlocks k counters'.blocks) (sym (ap (λ (t : TreeView). t.geometry) tree)) (are was);
-    few_nodes = λ few. subst (λ (t : TreeView). HasFewNodes t) (sym tree) few;
+      current_page after engine.made page ≡ current_page counters engine.made page) →
+      ((page : ℕ) (copy : CachedNode) → cached_block after page ≡ Some copy → cached_block counters page ≡ Some copy) →
+      Has (tags_of d n) Where counters history engine after history engine None
+  has_recached counters blocks' history engine are same fewer = record {
+    tree = steps_not d n Where counters.tree history engine;
+    blocks = λ was. are;
     holds = λ holds memory. record {
-      tree = subst (λ (t : TreeView). HoldsTree (tags_of d n) t history engine) (sym tree) holds.tree;
+      tree = holds.tree;
       clean = λ quiet page copy found unchanged. holds.clean quiet page copy (fewer page copy found) unchanged;
     };
     same = λ holds quiet page. ap (λ (b : List ℕ). block_of b) (same holds quiet page);
-    honest = λ holds used was. was;
-    lied = λ holds quiet place is. absurd (cc);
-    shown = λ holds quiet some. absurd (some quiet);
-    tampered = λ place is. absurd (cc);
-    found = λ quiet evidence is. absurd (cc);
-    unspent = λ spent is. absurd (cc);
-    writes = unchanged_writes history engine;
-    made_blocks = λ was. was;
-    last_blocks = λ remembered was. was;
-    slots = λ holds quiet tagged. tagged;
-    read = λ holds quiet level index held.
-        read_up_held counters.tree engine.made level index history history (subst (λ (t : TreeView). cached_node t level index ≢ None) tree held);
-    came = λ holds quiet memory level index held. inl (subst (λ (t : TreeView). cached_node t level index ≢ None) tree held, refl);
-    unread = λ holds quiet level index none. refl;
-    copied = λ holds quiet page held. inl (held_before (cached_block counters' page) (cached_block counters page) held (fewer page));
+    copied = λ holds quiet page held. inl (held_before (option_map copy_of (way_at blocks' page)) (cached_block counters page) held (fewer page));
   }
 
   -- all copies are the same
-  pub has_touched : (counters counters' : CountersView) (history : BusHistory) (engine : TagEngineView T) → counters'.tree ≡ counters.tree →
-      AreBlocks counters.tree.geometry counters'.blocks → ((page : ℕ) → cached_block counters' page ≡ cached_block counters page) →
-      Has (tags_of d n) Where counters history engine counters' history engine None
-  has_touched counters counters' history engine tree are same =
-      has_recached counters counters' history engine tree (λ was. are)
-      (λ holds quiet page. ap (λ (o : Option CachedNode). current_of o (last_node 0 page engine.made)) (same page))
-      (λ page copy found. sym (same page) ∙ found)
+  pub has_touched : (counters : CountersView) (blocks' : List (List Way)) (history : BusHistory) (engine : TagEngineView T) →
+      AreBlocks counters.tree.geometry blocks' → ((page : ℕ) → way_at blocks' page ≡ way_at counters.blocks page) →
+      Has (tags_of d n) Where counters history engine (record { tree = counters.tree; blocks = blocks' }) history engine None
+  has_touched counters blocks' history engine are same =
+      has_recached counters blocks' history engine are
+      (λ holds quiet page. ap (λ (o : Option Way). current_of (option_map copy_of o) (last_node 0 page engine.made)) (same page))
+      (λ page copy found. sym (ap (option_map copy_of) (same page)) ∙ found)
 
   -- a copy is gone that was the last block of its page
-  pub has_dropped : (page : ℕ) (counters counters' : CountersView) (history : BusHistory) (engine : TagEngineView T) (copy : CachedNode) →
-      counters'.tree ≡ counters.tree → AreBlocks counters.tree.geometry counters'.blocks → cached_block counters page ≡ Some copy → cached_block counters' page ≡ None →
-      ((other : ℕ) → other ≢ page → cached_block counters' other ≡ cached_block counters other) →
-      (HoldsCounters (tags_of d n) counters history engine → engine.evidence ≡ None → copy.block ≡ page_block page engine.made) →
-      Has (tags_of d n) Where counters history engine counters' history engine None
-  has_dropped page counters counters' history engine copy tree are held gone same is_last =
-      has_recached counters counters' history engine tree (λ was. are)
+  pub has_dropped : (page : ℕ) (counters : CountersView) (blocks' : List (List Way)) (history : BusHistory) (engine : TagEngineView T) (way : Way) →
+      AreBlocks counters.tree.geometry blocks' → way_at counters.blocks page ≡ Some way → way_at blocks' page ≡ None →
+      ((other : ℕ) → other ≢ page → way_at blocks' other ≡ way_at counters.blocks other) →
+      (HoldsCounters (tags_of d n) counters history engine → engine.evidence ≡ None → way.copy ≡ page_block page engine.made) →
+      Has (tags_of d n) Where counters history engine (record { tree = counters.tree; blocks = blocks' }) history engine None
+  has_dropped page counters blocks' history engine way are held gone same is_last =
+      let current : ℕ → Option Way → List ℕ = λ other found. current_of (option_map copy_of found) (last_node 0 other engine.made) in
+      has_recached counters blocks' history engine are
       (λ holds quiet other. elim (cases_eq other page) [
-        | inr apart ↦ ap (λ (o : Option CachedNode). current_of o (last_node 0 other engine.made)) (same other apart)
+        | inr apart ↦ ap (λ (o : Option Way). current other o) (same other apart)
         | inl here ↦
-            subst (λ (p : ℕ). current_page counters' engine.made p ≡ current_page counters engine.made p) (sym here)
-            (ap (λ (o : Option CachedNode). current_of o (last_node 0 page engine.made)) gone
-            ∙ sym (is_last holds quiet)
-            ∙ sym (ap (λ (o : Option CachedNode). current_of o (last_node 0 page engine.made)) held))
+            subst (λ (p : ℕ). current p (way_at blocks' p) ≡ current p (way_at counters.blocks p)) (sym here)
+            (ap (λ (o : Option Way). current page o) gone ∙ sym (is_last holds quiet) ∙ sym (ap (λ (o : Option Way). current page o) held))
       ])
       (λ other kept found. elim (cases_eq other page) [
-        | inr apart ↦ sym (same other apart) ∙ found
-        | inl here ↦ let none : None ≡ Some kept = sym (ap (λ (p : ℕ). cached_block counters' p) here ∙ gone) ∙ found in absurd (cc)
+        | inr apart ↦ sym (ap (option_map copy_of) (same other apart)) ∙ found
+        | inl here ↦ let none : None ≡ Some kept = sym (ap (λ (p : ℕ). option_map copy_of (way_at blocks' p)) here ∙ ap (option_map copy_of) gone) ∙ found in absurd (cc)
       ])
 
   -- a page's block was fetched, and is kept as a copy
-  module _ (page : ℕ) (counters : CountersView) (tree' : TreeView) (counters' : CountersView) (old new : BusHistory) (engine engine' : TagEngineView T) (block : List ℕ)
-      (call : TreeCall (tags_of d n) Where counters.tree old engine tree' new engine' None)
+  module _ (page : ℕ) (counters : CountersView) (tree' : TreeView) (blocks' : List (List Way)) (old new : BusHistory) (engine engine' : TagEngineView T) (block : List ℕ)
+      (steps : TreeSteps (tags_of d n) Where counters.tree old engine tree' new engine' None)
       (pages : (other : ℕ) → last_node 0 other engine'.made ≡ last_node 0 other engine.made)
       (known : HoldsTree (tags_of d n) counters.tree old engine → engine'.evidence ≡ None → block ≡ page_block page engine.made)
       (own : Where (node_place 0 page))
       (came : HoldsTree (tags_of d n) counters.tree old engine → engine'.evidence ≡ None → CameFrom engine.made old new page)
-      (tree_is : counters'.tree ≡ tree') (are : AreBlocks tree'.geometry counters'.blocks) (absent : cached_block counters page ≡ None)
-      (put : cached_block counters' page ≡ Some (record { block = block; changed = false }))
-      (same : (other : ℕ) → other ≢ page → cached_block counters' other ≡ cached_block counters other) where
+      (are : AreBlocks tree'.geometry blocks') (absent : way_at counters.blocks page ≡ None)
+      (put : way_at blocks' page ≡ Some (record { place = page; changed = false; copy = block }))
+      (same : (other : ℕ) → other ≢ page → way_at blocks' other ≡ way_at counters.blocks other) where
+    abbrev after : CountersView
+    after = record { tree = tree'; blocks = blocks' }
+
     before : Has (tags_of d n) Where counters old engine (over tree' counters) new engine' None
-    before = has_tree counters tree' old new engine engine' None call (λ other unchanged. pages other)
+    before = has_tree counters tree' old new engine engine' None steps (λ other unchanged. pages other)
 
     put_clean : HoldsCounters (tags_of d n) counters old engine → engine'.evidence ≡ None → (other : ℕ) (copy : CachedNode) →
-        cached_block counters' other ≡ Some copy → copy.changed ≡ false → copy.block ≡ page_block other engine'.made
+        cached_block after other ≡ Some copy → copy.changed ≡ false → copy.block ≡ page_block other engine'.made
     put_clean holds quiet other copy found unchanged =
         elim (cases_eq other page) [
-          | inr apart ↦ (before.holds holds going).clean quiet other copy (sym (same other apart) ∙ found) unchanged
+          | inr apart ↦ (before.holds holds going).clean quiet other copy (sym (ap (option_map copy_of) (same other apart)) ∙ found) unchanged
           | inl here ↦
-              let is : Some (record { block = block; changed = false }) ≡ Some copy = sym (ap (λ (p : ℕ). cached_block counters' p) here ∙ put) ∙ found in
+              let is : Some (record { block = block; changed = false }) ≡ Some copy =
+              sym (ap (λ (p : ℕ). cached_block after p) here ∙ ap (option_map copy_of) put) ∙ found in
               let same_block : copy.block ≡ block = cc in
               same_block ∙ known holds.tree quiet
               ∙ sym (ap (λ (p : ℕ). block_or_zeros (last_node 0 p engine'.made)) here ∙ ap (λ (o : Option (List ℕ)). block_or_zeros o) (pages page))
         ]
 
-    put_same : HoldsCounters (tags_of d n) counters old engine → engine'.evidence ≡ None → SameCounters counters engine.made counters' engine'.made
+    put_same : HoldsCounters (tags_of d n) counters old engine → engine'.evidence ≡ None → SameCounters counters engine.made after engine'.made
     put_same holds quiet other =
         elim (cases_eq other page) [
           | inr apart ↦
-              ap (λ (o : Option CachedNode). block_of (current_of o (last_node 0 other engine'.made))) (same other apart) ∙ before.same holds quiet other
+              ap (λ (o : Option Way). block_of (current_of (option_map copy_of o) (last_node 0 other engine'.made))) (same other apart) ∙ before.same holds quiet other
           | inl here ↦
-              subst (λ (p : ℕ). counters_in counters' engine'.made p ≡ counters_in counters engine.made p) (sym here)
-              (ap (λ (o : Option CachedNode). block_of (current_of o (last_node 0 page engine'.made))) put
+              subst (λ (p : ℕ). counters_in after engine'.made p ≡ counters_in counters engine.made p) (sym here)
+              (ap (λ (o : Option Way). block_of (current_of (option_map copy_of o) (last_node 0 page engine'.made))) put
               ∙ ap (λ (b : List ℕ). block_of b) (known holds.tree quiet)
-              ∙ sym (ap (λ (o : Option CachedNode). block_of (current_of o (last_node 0 page engine.made))) absent))
+              ∙ sym (ap (λ (o : Option Way). block_of (current_of (option_map copy_of o) (last_node 0 page engine.made))) absent))
         ]
 
-    pub has_put : Has (tags_of d n) Where counters old engine counters' new engine' None
+    pub has_put : Has (tags_of d n) Where counters old engine after new engine' None
     has_put = record {
-      moves = before.moves;
-      lines = before.lines;
-      geometry = ap (λ (t : TreeView). t.geometry) tree_is ∙ call.geometry;
-      root = ap (λ (t : TreeView). t.root) tree_is ∙ call.root;
-      blocks = λ was. subst (λ (t : TreeView). AreBlocks t.geometry counters'.blocks) (sym tree_is) are;
-      few_nodes = λ few. subst (λ (t : TreeView). HasFewNodes t) (sym tree_is) call.few_nodes;
-      holds = λ holds memory. record {
-        tree = subst (λ (t : TreeView). HoldsTree (tags_of d n) t new engine') (sym tree_is) (call.holds holds.tree going);
-        clean = λ quiet other copy found unchanged. put_clean holds quiet other copy found unchanged;
-      };
+      tree = steps;
+      blocks = λ was. are;
+      holds = λ holds memory. record { tree = steps.holds holds.tree going; clean = put_clean holds };
       same = put_same;
-      honest = before.honest;
-      lied = before.lied;
-      shown = before.shown;
-      tampered = before.tampered;
-      found = before.found;
-      unspent = before.unspent;
-      writes = before.writes;
-      made_blocks = before.made_blocks;
-      last_blocks = before.last_blocks;
-      slots = before.slots;
-      read = λ holds quiet level index held.
-          call.read holds.tree quiet level index (subst (λ (t : TreeView). cached_node t level index ≢ None) tree_is held);
-      came = λ holds quiet memory level index held.
-          call.came holds.tree quiet memory level index (subst (λ (t : TreeView). cached_node t level index ≢ None) tree_is held);
-      unread = before.unread;
       copied = λ holds quiet other held. elim (cases_eq other page) [
-        | inr apart ↦ inl (λ none. held (same other apart ∙ none))
+        | inr apart ↦ inl (λ none. held (ap (option_map copy_of) (same other apart) ∙ none))
         | inl here ↦ inr (subst (λ (p : ℕ). Where (node_place 0 p) × CameFrom engine.made old new p) (sym here) (own, came holds.tree quiet))
       ];
     }
@@ -378,45 +226,21 @@ holds_changed d n counters counters' history engine page block tree put same hol
   ];
 }
 
--- places that are among others
-has_as : {T : Type 0} (d n : T → List ℕ → List ℕ) (Some_of All_of : Place → Type 0) (counters counters' : CountersView) (old new : BusHistory) (engine engine' : TagEngineView T)
-    (stop : Option MemStop) → ((place : Place) → Some_of place → All_of place) → Has (tags_of d n) Some_of counters old engine counters' new engine' stop →
-    Has (tags_of d n) All_of counters old engine counters' new engine' stop
-has_as d n Some_of All_of counters counters' old new engine engine' stop wider has = record {
-  moves = has.moves;
-  lines = has.lines;
-  geometry = has.geometry;
-  root = has.root;
+-- room that is made for a page's block
+pub has_room : {T : Type 0} (d n : T → List ℕ → List ℕ) (page : ℕ) (counters counters' : CountersView) (old new : BusHistory) (engine engine' : TagEngineView T)
+    (stop : Option MemStop) → Has (tags_of d n) (IsNodeFrom counters.tree.geometry 1) counters old engine counters' new engine' stop →
+    Has (tags_of d n) (IsFetchPlace counters.tree.geometry page) counters old engine counters' new engine' stop
+has_room d n page counters counters' old new engine engine' stop has = record {
+  tree = steps_where (tags_of d n) (IsNodeFrom counters.tree.geometry 1) (IsFetchPlace counters.tree.geometry page) counters.tree counters'.tree old new
+      engine engine' stop (λ place from. inr from) has.tree;
   blocks = has.blocks;
-  few_nodes = has.few_nodes;
   holds = has.holds;
   same = has.same;
-  honest = has.honest;
-  lied = has.lied;
-  shown = has.shown;
-  tampered = λ place is. wider place (has.tampered place is);
-  found = λ quiet evidence is. wider (evidence_place evidence) (has.found quiet evidence is);
-  unspent = has.unspent;
-  writes = has.writes;
-  made_blocks = has.made_blocks;
-  last_blocks = has.last_blocks;
-  slots = has.slots;
-  read = has.read;
-  came = has.came;
-  unread = has.unread;
-  copied = λ holds quiet page held. elim (has.copied holds quiet page held) [
+  copied = λ holds quiet other held. elim (has.copied holds quiet other held) [
     | inl before ↦ inl before
-    | inr came ↦ inr (wider (node_place 0 page) came.0, came.1)
+    | inr came ↦ inr (inr came.0, came.1)
   ];
 }
-
--- room that is made for a page's block, from copies that are the same
-pub has_room : {T : Type 0} (d n : T → List ℕ → List ℕ) (page : ℕ) (counters touched counters' : CountersView) (old new : BusHistory) (engine engine' : TagEngineView T)
-    (stop : Option MemStop) → touched ≡ counters → Has (tags_of d n) (IsNodeFrom touched.tree.geometry 1) touched old engine counters' new engine' stop →
-    Has (tags_of d n) (IsFetchPlace counters.tree.geometry page) counters old engine counters' new engine' stop
-has_room d n page counters touched counters' old new engine engine' stop same has =
-    subst (λ (v : CountersView). Has (tags_of d n) (IsFetchPlace v.tree.geometry page) v old engine counters' new engine' stop) same
-    (has_as d n (IsNodeFrom touched.tree.geometry 1) (IsFetchPlace touched.tree.geometry page) touched counters' old new engine engine' stop (λ place from. inr from) has)
 
 -- a page's place that is read where a block is fetched is that of its own page
 fetched_page : (geometry : GeometryView) (page other : ℕ) → IsFetchPlace geometry page (node_place 0 other) → other ≡ page
@@ -425,13 +249,6 @@ fetched_page geometry page other (inr from) = absurd (not_from_one geometry othe
 
 module _ {T : Type 0} (d n : T → List ℕ → List ℕ) (page : ℕ) (counters counters' : CountersView) (old new : BusHistory) (engine engine' : TagEngineView T)
     (stop : Option MemStop) (has : Has (tags_of d n) (IsFetchPlace counters.tree.geometry page) counters old engine counters' new engine' stop) where
-  -- the messages that were made more
-  pub has_writes : (more : List Message) → engine'.made ≡ engine.made ++ more → WritesMessages old new (length more) (unwritten_in stop)
-  has_writes more is =
-      let same : length has.moves.more ≡ length more =
-      omega (arith, ap length is, ap length has.moves.made, length-append engine.made has.moves.more, length-append engine.made more) in
-      subst (λ (k : ℕ). WritesMessages old new k (unwritten_in stop)) same has.writes
-
   -- the pages that have a copy
   pub has_pages : AreBlocks counters'.tree.geometry counters'.blocks → HoldsCounters (tags_of d n) counters old engine →
       engine'.evidence ≡ None → (other : ℕ) → Contains (cached_pages counters') other →

@@ -1,5 +1,5 @@
 -- What a call makes that has the counters of a page, and a count of a write by them.
-use Rattle.std.specs.Prelude.{◌≡◌, ◌≢◌, ◌⊎◌, ℕ, ◌+◌, ◌<◌, ◌≤◌, ◌^◌, List, length, Option, Some, None, Result, Ok, Err}
+use Rattle.std.specs.Prelude.{◌≡◌, ◌≢◌, ◌⊎◌, ℕ, ◌+◌, ◌<◌, ◌≤◌, ◌^◌, List, length, true, Option, Some, None, Result, Ok, Err}
 use Rattle.std.specs.List.{Contains}
 use Rattle.std.specs.Result.{result_err}
 use Rattle.sec_base.specs.Geometry.{parent}
@@ -17,8 +17,9 @@ use Rattle.tag_engine.specs.TagEngine.{TagEngineView}
 use Rattle.split_counter.specs.declared.bumped.Bumped.{Bumped}
 use Rattle.split_counter.specs.declared.bumped.Bumped.TheVariants.{Line, Page, Spent}
 use Rattle.split_counter.specs.CounterBlock.{after_bump, block_bytes, block_of, bumped, counter_number, counter_of}
+use Rattle.bonsai_tree.specs.Node.{CachedNode}
 use Rattle.bonsai_tree.specs.Tree.{IsFetchPlace, PathWasRead, cached_node, path_accesses}
-use Rattle.counter_cache.specs.Counters.{AreCopies, BlocksCameUnlessHeld, CountersView, HoldsCounters, IsHad, LeavesClean, OnlyLeavingIsMade, cached_pages, counter_accesses, counters_in, most_blocks}
+use Rattle.counter_cache.specs.Counters.{AreCopies, BlocksCameUnlessHeld, CountersView, HoldsCounters, IsHad, LeavesClean, LeavingIsMade, OnlyLeavingIsMade, cached_block, cached_pages, counter_accesses, counters_in, most_blocks}
 use Rattle.counter_cache.specs.Having.{Has}
 
 -- A page's block has a copy with these bytes, the most recently used one of its set. It had one, or one came in unchanged, and the
@@ -53,23 +54,26 @@ pub record HadCounters {T : Type 0} (tags : TagEngineView T → Message → List
   pub written : OnlyLeavingIsMade counters page engine.made engine'.made
   pub blocks_came : HoldsCounters tags counters old engine → engine'.evidence ≡ None → stop ≡ None →
       BlocksCameUnlessHeld counters old engine.made counters' new engine'.made
+  -- with evidence too, a changed copy that is gone was made
+  pub gone : (other : ℕ) (copy : CachedNode) → cached_block counters other ≡ Some copy → copy.changed ≡ true →
+      cached_block counters' other ≡ None → LeavingIsMade counters page engine.made engine'.made
   -- a block that passed is used
   pub accepted : engine.evidence ≡ None → (made_at : ℕ) (bytes tag : List ℕ) →
       engine'.evidence ≡ Some (Collision 0 page made_at bytes tag) → stop ≡ None
   -- a page that has a copy makes no access
   pub hit : Contains (cached_pages counters) page → (stop ≡ None) × (new ≡ old) × (engine' ≡ engine) × (counters'.tree ≡ counters.tree)
   -- The block of one that has none is had by the node above it, which has a copy then. It is read, and so are the nodes above it,
-  -- up to the lowest one that has a copy; but none that was never made. No other page's block is read.
+  -- up to the lowest one that has a copy; but none that was never made. It is read once at most, and no other page's.
   pub parent : ¬ Contains (cached_pages counters) page → stop ≡ None → cached_node counters'.tree 1 (parent counters.tree.geometry 0 page).1 ≢ None
   pub path : HoldsCounters tags counters old engine → engine'.evidence ≡ None → ¬ Contains (cached_pages counters) page →
       stop ≡ None → PathWasRead counters.tree engine.made 0 page old new
   pub alone : (other : ℕ) → other ≢ page → new.reads (node_place 0 other) ≡ old.reads (node_place 0 other)
+  pub block_once : new.reads (node_place 0 page) ≤ old.reads (node_place 0 page) + 1
   -- how many accesses and messages there are, and how much room is taken
   pub once : new.accesses ≤ old.accesses + counter_accesses counters.tree.geometry.levels
   pub once_clean : LeavesClean counters page → new.accesses ≤ old.accesses + path_accesses counters.tree.geometry.levels
   pub few : length engine'.made ≤ length engine.made + counter_accesses counters.tree.geometry.levels
   pub room : engine.room ≤ engine'.room + counter_accesses counters.tree.geometry.levels
-  pub no_rise : engine'.room ≤ engine.room
 
 -- the copies once a write was counted: the page's has these bytes and is changed, unless the line is spent
 abbrev pub counted : Bumped → List (List Way) → ℕ → List ℕ → List (List Way)

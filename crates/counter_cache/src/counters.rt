@@ -1,10 +1,8 @@
 // The counters of all pages, by the tree over their blocks and copies of these.
 ghost use Rattle.std.specs.Prelude.{true, false, ◌≡◌, ◌≢◌, ◌⊎◌, ◌+◌, ◌<◌, ◌≤◌, ◌++◌, ◌∷◌, ℕ, List, [], None, Some, Ok, IfOk, IsOk, OnOk, OnErr, Contains, length};
 ghost use Rattle.std.specs.Result.{result_err};
-ghost use Rattle.sec_base.specs.Geometry.{page_count, parent};
-ghost use Rattle.sec_base.specs.LastMessage.{last_node};
+ghost use Rattle.sec_base.specs.Geometry.{page_count};
 ghost use Rattle.sec_base.specs.declared.counter.Counter.{Counter};
-ghost use Rattle.sec_base.specs.declared.evidence.Evidence.TheVariants.{Collision};
 ghost use Rattle.sec_base.specs.declared.place.Place.TheVariants.{Node as node_place};
 ghost use Rattle.bus_model.specs.BusHistory.{NothingWritten};
 ghost use Rattle.cache_set.specs.CacheSet.{HasRoom};
@@ -14,11 +12,11 @@ ghost use Rattle.tag_engine.specs.TagEngine.{tags_of};
 ghost use Rattle.checked_bus.specs.Makes.{MakesAccesses};
 ghost use Rattle.split_counter.specs.declared.bumped.Bumped.TheVariants.{Line, Page, Spent};
 ghost use Rattle.split_counter.specs.CounterBlock.{IsCounterBlock, bumped, new_block};
-ghost use Rattle.bonsai_tree.specs.Node.{level_blocks, no_tag, page_block};
-ghost use Rattle.bonsai_tree.specs.Tree.{IsFetchPlace, IsNodeFrom, PathWasRead, cached_node, cached_nodes, path_accesses};
-ghost use Rattle.counter_cache.specs.Counters.{AreCopies, BlocksCameUnlessHeld, HoldsCounters, LeavesClean, OnlyLeavingIsMade, cached_pages, counter_accesses, counters_in};
+ghost use Rattle.bonsai_tree.specs.Node.{CachedNode, level_blocks, no_tag, page_block};
+ghost use Rattle.bonsai_tree.specs.Tree.{IsNodeFrom, cached_nodes, path_accesses};
+ghost use Rattle.counter_cache.specs.Counters.{AreCopies, HoldsCounters, LeavesClean, LeavingIsMade, OnlyLeavingIsMade, cached_block, cached_pages, counters_in};
 ghost use Rattle.counter_cache.specs.Having.{Has};
-ghost use Rattle.counter_cache.specs.HadCounters.{BlockHad, BlockMissed, HadCounters, IsBumped, IsCounted, IsLineCounter};
+ghost use Rattle.counter_cache.specs.HadCounters.{HadCounters, IsBumped, IsCounted, IsLineCounter};
 
 use bonsai_tree::Tree;
 use bus_model::Bus;
@@ -167,46 +165,9 @@ impl Counters {
         requires bus { (B.history bus.old).geometry ≡ self.old.tree.geometry }
         requires engine { tags.old.geometry ≡ self.old.tree.geometry }
 
-        ensures has { Has (tags_of T.data_tag_of T.node_tag_of)
-            (IsFetchPlace self.old.tree.geometry page)
-            self.old (B.history bus.old) tags.old self.new (B.history bus.new) tags.new
+        ensures had { HadCounters (tags_of T.data_tag_of T.node_tag_of)
+            self.old (B.history bus.old) tags.old self.new (B.history bus.new) tags.new page
             (result_err result) }
-        ensures once { (B.history bus.new).accesses
-            ≤ (B.history bus.old).accesses + counter_accesses self.old.tree.geometry.levels }
-        ensures few { length tags.new.made
-            ≤ length tags.old.made + counter_accesses self.old.tree.geometry.levels }
-        ensures room { tags.old.room
-            ≤ tags.new.room + counter_accesses self.old.tree.geometry.levels }
-        ensures no_rise { tags.new.room ≤ tags.old.room }
-        ensures copies { AreCopies self.new }
-        ensures block { OnOk result (BlockHad (tags_of T.data_tag_of T.node_tag_of tags.old)
-            self.old self.new tags.new.made page
-            tags.old.evidence tags.new.evidence) }
-        ensures missed { OnErr result (BlockMissed self.old self.new page) }
-        ensures came { HoldsCounters (tags_of T.data_tag_of T.node_tag_of) self.old
-            (B.history bus.old) tags.old →
-            tags.new.evidence ≡ None → OnOk result (BlocksCameUnlessHeld
-            self.old (B.history bus.old) tags.old.made self.new (B.history bus.new) tags.new.made) }
-        ensures hit { Contains (cached_pages self.old) page →
-            IsOk result × (B.history bus.new ≡ B.history bus.old) × (tags.new ≡ tags.old)
-            × (self.new.tree ≡ self.old.tree) }
-        ensures accepted { (made_at : ℕ) (bytes tag : List ℕ) → tags.old.evidence ≡ None →
-            tags.new.evidence ≡ Some (Collision 0 page made_at bytes tag) → IsOk result }
-        ensures read { HoldsCounters (tags_of T.data_tag_of T.node_tag_of) self.old
-            (B.history bus.old) tags.old →
-            tags.new.evidence ≡ None → ¬ Contains (cached_pages self.old) page →
-            OnOk result (PathWasRead self.old.tree tags.old.made 0 page (B.history bus.old)
-            (B.history bus.new)) }
-        ensures parent { ¬ Contains (cached_pages self.old) page →
-            OnOk result (cached_node self.new.tree 1 (parent self.old.tree.geometry 0 page).1
-            ≢ None) }
-        ensures alone { (other : ℕ) → other ≢ page →
-            (B.history bus.new).reads (node_place 0 other)
-            ≡ (B.history bus.old).reads (node_place 0 other) }
-        ensures once_clean { LeavesClean self.old page →
-            (B.history bus.new).accesses
-            ≤ (B.history bus.old).accesses + path_accesses self.old.tree.geometry.levels }
-        ensures written { OnlyLeavingIsMade self.old page tags.old.made tags.new.made }
         ensures accesses { MakesAccesses B.moved (tags_of T.data_tag_of T.node_tag_of tags.old)
             bus.old tags.old bus.new tags.new (result_err result) }
     {
@@ -240,18 +201,19 @@ impl Counters {
         ensures few { length tags.new.made
             ≤ length tags.old.made + path_accesses self.old.tree.geometry.levels }
         ensures room { tags.old.room ≤ tags.new.room + path_accesses self.old.tree.geometry.levels }
-        ensures no_rise { tags.new.room ≤ tags.old.room }
         ensures absent { way_at self.new.blocks page ≡ None }
         ensures ways { OnOk result (self.new.blocks ≡ with_room self.old.blocks page) }
         ensures ways_kept { OnErr result (self.new.blocks ≡ self.old.blocks) }
         ensures room_for { OnOk result (HasRoom (set_at self.new.blocks page)) }
-        ensures pages { last_node 0 page tags.new.made ≡ last_node 0 page tags.old.made }
         ensures no_block_read { (other : ℕ) →
             (B.history bus.new).reads (node_place 0 other)
             ≡ (B.history bus.old).reads (node_place 0 other) }
         ensures idle { LeavesClean self.old page →
             (B.history bus.new).accesses ≡ (B.history bus.old).accesses }
         ensures written { OnlyLeavingIsMade self.old page tags.old.made tags.new.made }
+        ensures gone { (other : ℕ) (copy : CachedNode) → cached_block self.old other ≡ Some copy →
+            copy.changed ≡ true → cached_block self.new other ≡ None →
+            LeavingIsMade self.old page tags.old.made tags.new.made }
         ensures accesses { MakesAccesses B.moved (tags_of T.data_tag_of T.node_tag_of tags.old)
             bus.old tags.old bus.new tags.new (result_err result) }
     {
@@ -284,14 +246,11 @@ impl Counters {
         ensures few { length tags.new.made
             ≤ length tags.old.made + path_accesses self.old.tree.geometry.levels }
         ensures room { tags.old.room ≤ tags.new.room + path_accesses self.old.tree.geometry.levels }
-        ensures no_rise { tags.new.room ≤ tags.old.room }
         ensures blocks { self.new.blocks ≡ self.old.blocks }
         ensures last { OnOk result (HoldsCounters (tags_of T.data_tag_of T.node_tag_of) self.new
             (B.history bus.new) tags.new →
             tags.new.evidence ≡ None →
             victim.now.copy ≡ page_block victim.now.place tags.new.made) }
-        ensures others { (other : ℕ) → other ≢ victim.now.place →
-            last_node 0 other tags.new.made ≡ last_node 0 other tags.old.made }
         ensures no_block_read { (other : ℕ) →
             (B.history bus.new).reads (node_place 0 other)
             ≡ (B.history bus.old).reads (node_place 0 other) }
@@ -301,6 +260,8 @@ impl Counters {
             ⊎ ((victim.now.changed ≡ true)
             × (level_blocks 0 tags.new.made
             ≡ level_blocks 0 tags.old.made ++ (victim.now.place, victim.now.copy) ∷ [])) }
+        ensures made { OnOk result (victim.now.changed ≡ true → level_blocks 0 tags.new.made
+            ≡ level_blocks 0 tags.old.made ++ (victim.now.place, victim.now.copy) ∷ []) }
         ensures accesses { MakesAccesses B.moved (tags_of T.data_tag_of T.node_tag_of tags.old)
             bus.old tags.old bus.new tags.new (result_err result) }
     {

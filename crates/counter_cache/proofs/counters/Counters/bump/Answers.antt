@@ -1,8 +1,6 @@
-use Rattle.std.proofs.Common.{◌≡◌, Option, Some, sym, subst, rules}
+use Rattle.std.proofs.Common.{◌≡◌, Some, rules}
 use Rattle.std.specs.Result.{result_err}
-use Rattle.sec_base.specs.declared.stop.MemStop.{MemStop}
 use Rattle.tag_engine.specs.TagEngine.{tags_of}
-use Rattle.checked_bus.specs.Makes.{MakesAccesses}
 use Rattle.counter_cache.proofs.Counted.{bumped_not}
 use Rattle.counter_cache.proofs.counters.Counters.bump.Goals as goal
 
@@ -23,5 +21,4 @@ pub returns-in_err-get-clause-accesses : goal.returns-in_err-get-clause-accesses
 returns-in_err-get-clause-accesses g c =
     let why = c.in_err-get.field-0.0 in
     let stop : result_err c.from_residual.result ≡ Some why = search rules in
-    subst (λ (s : Option MemStop). MakesAccesses g.B.Bus.moved (tags_of g.T.Tagger.data_tag_of g.T.Tagger.node_tag_of c.args.tags.now) c.args.bus.now c.args.tags.now c.get.new.bus c.get.new.tags s) (sym stop)
-    c.in_err-get.ensures.accesses
+    rw stop c.in_err-get.ensures.accesses

@@ -2,6 +2,7 @@ use Rattle.std.proofs.Common.{◌≡◌, inl, inr, ℕ, Some, None, true, false,
 use Rattle.std.specs.Option.{option_map}
 use Rattle.std.specs.Result.{result_err}
 use Rattle.std.proofs.lemmas.Bool.{cases_eq}
+use Rattle.std.proofs.lemmas.Result.{on_ok_weaker}
 use Rattle.cache_set.specs.Cache.{way_at}
 use Rattle.tag_engine.specs.TagEngine.{tags_of}
 use Rattle.bonsai_tree.specs.NodeCache.{copy_of}
@@ -21,7 +22,7 @@ returns-clause-has g c =
     subst (λ (v : CountersView). Has (tags_of g.T.Tagger.data_tag_of g.T.Tagger.node_tag_of) (IsNodeFrom v.tree.geometry 1) v (g.B.Bus.history c.args.bus.now) c.args.tags.now (over c.update.new.self (record { tree = c.self.inside.tree; blocks = c.self.inside.blocks }))
     (g.B.Bus.history c.update.new.bus) c.update.new.tags (result_err c.update.result)) c.self.view_is
     (has_tree g.T.Tagger.data_tag_of g.T.Tagger.node_tag_of (IsNodeFrom c.self.inside.tree.geometry 1) (record { tree = c.self.inside.tree; blocks = c.self.inside.blocks }) c.update.new.self (g.B.Bus.history c.args.bus.now) (g.B.Bus.history c.update.new.bus) c.args.tags.now c.update.new.tags (result_err c.update.result)
-    c.update.ensures.called
+    c.update.ensures.called.steps
     (λ page unchanged. elim (cases_eq page c.args.victim.now.place) [
       | inr apart ↦ c.update.ensures.others page apart
       | inl here ↦
@@ -45,6 +46,14 @@ returns-clause-written g c =
       | inl same ↦ inl same
       | inr one ↦ inr (changed, one)
     ]
+
+pub returns-then-not-victim-clause-made : goal.returns-then-not-victim-clause-made
+returns-then-not-victim-clause-made g c = λ changed.
+    let unchanged : c.args.victim.now.changed ≡ false = search rules in
+    absurd (cc)
+
+pub returns-clause-made : goal.returns-clause-made
+returns-clause-made g c = on_ok_weaker c.update.result (λ one changed. one) c.update.ensures.one_page
 
 -- its accesses
 pub returns-then-not-victim-clause-accesses : goal.returns-then-not-victim-clause-accesses
