@@ -1,111 +1,125 @@
--- What a step over the nodes takes from a call that had the counters of a page, and from a write that was counted by them.
-use Rattle.std.proofs.Common.{◌≡◌, ◌≢◌, ◌⊎◌, inl, inr, ℕ, ◌<◌, List, Option, Some, None, Contains, Result, Ok, Err, IfOk, OnOk, refl, ap, sym, ◌∙◌, subst}
-use Rattle.std.specs.Result.{result_err}
-use Rattle.sec_base.specs.Geometry.{GeometryView, page_count}
-use Rattle.sec_base.specs.declared.evidence.Evidence.TheVariants.{Collision}
+-- What a call that had the counters of a page makes of the memory outside, and a write that was counted by them.
+use Rattle.std.proofs.Common.{◌≡◌, ◌≢◌, inl, ℕ, ◌+◌, ◌<◌, ◌≤◌, List, Option, Some, None, Contains, refl, ap, sym, ◌∙◌, subst}
+use Rattle.sec_base.specs.Count.{Rose}
+use Rattle.sec_base.specs.Evidence.{evidence_place}
+use Rattle.sec_base.specs.Geometry.{GeometryView, page_count, page_of}
+use Rattle.sec_base.specs.declared.counter.Counter.{Counter}
+use Rattle.sec_base.specs.declared.evidence.Evidence.{Evidence}
+use Rattle.sec_base.specs.declared.place.Place.{Place}
 use Rattle.sec_base.specs.declared.stop.MemStop.{MemStop}
-use Rattle.sec_base.specs.declared.stop.MemStop.TheVariants.{NoMemory, Spent, Tampered}
-use Rattle.cache_set.specs.Cache.{IsLatest}
+use Rattle.sec_base.specs.declared.stop.MemStop.TheVariants.{Spent, Tampered}
 use Rattle.bus_model.specs.Access.{Access}
 use Rattle.bus_model.specs.BusHistory.{BusHistory}
 use Rattle.tag_engine.specs.TagEngine.{TagEngineView, tags_of}
+use Rattle.checked_bus.specs.Steps.{IsAccounted}
 use Rattle.split_counter.specs.declared.bumped.Bumped.{Bumped}
-use Rattle.split_counter.specs.CounterBlock.{CounterBlockView, after_bump, block_of, bumped, counter_of}
-use Rattle.bonsai_tree.specs.Tree.{TreeView, cached_node}
+use Rattle.split_counter.specs.CounterBlock.{CounterBlockView, after_bump, bumped, counter_of}
+use Rattle.bonsai_tree.specs.Tree.{IsFetchPlace, PathWasRead, TreeView, cached_node}
 use Rattle.bonsai_tree.proofs.Climbs.{read_up_held}
-use Rattle.counter_cache.specs.Counters.{AreCopies, AreHad, CountersView, HoldsCounters, cached_pages, counters_in}
-use Rattle.counter_cache.specs.HadCounters.{AreBlocksAfter, BlockHad, HadCounters, IsCounted}
-use Rattle.counter_cache.proofs.BlockCopies.{few_blocks, pages_inside}
+use Rattle.counter_cache.specs.Counters.{AreCopies, AreHad, CountersView, SameCounters, cached_pages, counter_accesses, counters_in}
+use Rattle.counter_cache.specs.HadCounters.{HadCounters, IsCounted}
+use Rattle.counter_cache.proofs.BlockCopies.{few_blocks, latest_cached, pages_inside}
 use Rattle.counter_cache.proofs.Blocks.{counters_of_copy}
 use Rattle.counter_cache.proofs.Counted.{counted_cached, counted_fewer, counted_holds, counted_now, counted_others, counted_outcome, counted_pages}
 use Rattle.counter_cache.proofs.Havings.{has_pages}
-use Rattle.page_reencrypt.specs.Outside.{CountersFit, OutsideView, terms_of}
+use Rattle.page_reencrypt.specs.Outside.{CountersFit, IsNodeStep, NodesSayStill, OutsideView, terms_of}
 use Rattle.page_reencrypt.specs.SealedLines.{AreOfPages, CopiesCame, KeepsFew}
-use Rattle.page_reencrypt.specs.Stops.{lasting_stop}
-use Rattle.page_reencrypt.proofs.NodeSteps.{fits_after, fits_before}
+use Rattle.page_reencrypt.specs.UnderCounters.{HadFirst}
+use Rattle.page_reencrypt.proofs.NodeSteps.{fits_after, fits_before, shows_by}
+use Rattle.page_reencrypt.proofs.Reaching.{HasCome, IsReached}
+use Rattle.page_reencrypt.proofs.Stops.{going_not_memory, unspent_going}
+use Rattle.page_reencrypt.proofs.UnderCounters.{had_first}
 
-pub ok_same : {A E : Type 0} (result : Result A E) (x y : A) → x ≡ y → IfOk result (λ value. value ≡ x) → IfOk result (λ value. value ≡ y)
-ok_same (Ok value) x y same is = is ∙ same
-ok_same (Err error) x y same is = tt
+-- a page that has a copy is of the memory
+pub had_pages : {T : Type 0} (d n : T → List ℕ → List ℕ) (counters counters' : CountersView) (old new : BusHistory) (engine engine' : TagEngineView T) (page : ℕ)
+    (stop : Option MemStop) → HadCounters (tags_of d n) counters old engine counters' new engine' page stop → (geometry : GeometryView) →
+    counters.tree.geometry ≡ geometry → (other : ℕ) → Contains (cached_pages counters') other → other < page_count geometry
+had_pages d n counters counters' old new engine engine' page stop had geometry same =
+    pages_inside counters'.tree.geometry geometry counters'.blocks (had.has.tree.geometry ∙ same) had.copies.blocks
 
-pub ok_by : {A E P : Type 0} (result : Result A E) → (result_err result ≡ None → P) → OnOk result P
-ok_by (Ok value) holds = holds refl
-ok_by (Err error) holds = tt
+-- The counters of a line's page were had, or the call was refused them: what that makes of the memory outside.
+pub record IsGot {B T : Type 0} (history : B → BusHistory) (moved : B → List Access → B → Type 0) (d n : T → List ℕ → List ℕ) (line : ℕ) (old : OutsideView B T)
+    (counters : CountersView) (new : OutsideView B T) (counters' : CountersView) (stop : Option MemStop) : Type 0 where
+  pub first : HadFirst history moved (tags_of d n) line old counters new counters' stop
+  pub reached : IsReached (terms_of history moved d n old) old counters new counters' stop
+  pub come : HasCome (terms_of history moved d n old) (page_of line) old counters new counters' stop
+  pub same : new.engine.evidence ≡ None → SameCounters counters old.engine.made counters' new.engine.made
+  pub once : (history new.bus).accesses ≤ (history old.bus).accesses + counter_accesses old.engine.geometry.levels
+  pub idle : Contains (cached_pages counters) (page_of line) → (history new.bus).accesses ≡ (history old.bus).accesses
+  pub path : stop ≡ None → new.engine.evidence ≡ None → ¬ Contains (cached_pages counters) (page_of line) →
+      PathWasRead counters.tree old.engine.made 0 (page_of line) (history old.bus) (history new.bus)
+  pub found : (evidence : Evidence) → old.engine.evidence ≡ None → new.engine.evidence ≡ Some evidence →
+      IsFetchPlace old.engine.geometry (page_of line) (evidence_place evidence)
+  pub tampered : (place : Place) → stop ≡ Some (Tampered place) → IsFetchPlace old.engine.geometry (page_of line) place
+      × (old.engine.evidence ≡ None → Rose (history old.bus).lies (history new.bus).lies)
+  pub unspent : (page : ℕ) → stop ≢ Some (Spent page)
 
-pub ok_with_memory : {A P : Type 0} (result : Result A MemStop) → (result_err result ≢ Some NoMemory → P) → OnOk result P
-ok_with_memory (Ok value) holds = holds (λ (is : None ≡ Some NoMemory). cc)
-ok_with_memory (Err stop) holds = tt
+module _ {B T : Type 0} (history : B → BusHistory) (moved : B → List Access → B → Type 0) (d n : T → List ℕ → List ℕ) (line : ℕ) (old : OutsideView B T)
+    (counters : CountersView) (new : OutsideView B T) (counters' : CountersView) where
+  pub got_by : (page : ℕ) (stop : Option MemStop) → page ≡ page_of line → counters.tree.geometry ≡ old.engine.geometry →
+      CountersFit (terms_of history moved d n old) old counters → IsNodeStep (terms_of history moved d n old) old new stop →
+      HadCounters (tags_of d n) counters (history old.bus) old.engine counters' (history new.bus) new.engine page stop → new.pads ≡ old.pads →
+      NodesSayStill (terms_of history moved d n old) old new → IsGot history moved d n line old counters new counters' stop
+  got_by page stop page_is geometry fits step had_page pads nodes =
+      let first : HadFirst history moved (tags_of d n) line old counters new counters' stop =
+      had_first history moved (tags_of d n) line old counters new counters' page stop page_is had_page step.trace pads in
+      let had = first.had in
+      let was_fit = fits_before history moved d n old new.bus new.engine counters fits in
+      record {
+        first = first;
+        reached = record {
+          node = step;
+          geometry = had.has.tree.geometry;
+          fits = λ going.
+              fits_after history moved d n old new.bus new.engine counters' step.step.tagger step.step.geometry
+              (had.has.holds was_fit (going_not_memory stop going));
+          accounted = λ was.
+              subst (λ (u : List (ℕ × Counter)). IsAccounted (tags_of d n old.engine) u new.engine.made (history new.bus) stop new.engine.evidence) (sym step.used)
+              (had.has.tree.honest was_fit.tree old.pads.used was);
+          shows = λ quiet. shows_by new.engine.evidence (had.has.tree.shown was_fit.tree quiet);
+          nodes = nodes;
+        };
+        come = record {
+          few = record {
+            blocks = λ few. few_blocks counters'.tree.geometry counters'.blocks had.copies.blocks;
+            nodes = λ level few. had.copies.few_nodes level;
+          };
+          copies = λ quiet. record {
+            blocks = has_pages d n (page_of line) counters counters' (history old.bus) (history new.bus) old.engine new.engine stop had.has had.copies.blocks was_fit quiet;
+            nodes = had.has.tree.read was_fit.tree quiet;
+            nodes_came = had.has.tree.came was_fit.tree quiet;
+            blocks_came = λ going. had.blocks_came was_fit quiet (unspent_going stop had.has.tree.unspent going);
+          };
+          unread = had.has.tree.unread was_fit.tree;
+        };
+        same = had.has.same was_fit;
+        once = subst (λ (l : GeometryView). (history new.bus).accesses ≤ (history old.bus).accesses + counter_accesses l.levels) geometry had.once;
+        idle = λ cached. ap (λ (h : BusHistory). h.accesses) (had.hit cached).1;
+        path = λ none quiet missed. had.path was_fit quiet missed none;
+        found = λ evidence quiet is.
+            subst (λ (l : GeometryView). IsFetchPlace l (page_of line) (evidence_place evidence)) geometry (had.has.tree.found quiet evidence is);
+        tampered = λ place is. (
+          subst (λ (l : GeometryView). IsFetchPlace l (page_of line) place) geometry (had.has.tree.tampered place is),
+          λ quiet. had.has.tree.lied was_fit.tree quiet place is,
+        );
+        unspent = had.has.tree.unspent;
+      }
 
-ok_or_stop : {A : Type 0} (result : Result A MemStop) → ((value : A) × (result ≡ Ok value)) ⊎ ((stop : MemStop) × (result_err result ≡ Some stop))
-ok_or_stop (Ok value) = inl (value, refl)
-ok_or_stop (Err stop) = inr (stop, refl)
+  -- where they were had
+  module _ (first : HadFirst history moved (tags_of d n) line old counters new counters' None) where
+    pub got_cached : Contains (cached_pages counters') (page_of line)
+    got_cached = latest_cached counters' (page_of line) first.had.blocks.latest
 
-unspent_going : (stop : Option MemStop) → ((page : ℕ) → stop ≢ Some (Spent page)) → lasting_stop stop ≡ None → stop ≡ None
-unspent_going None unspent going = refl
-unspent_going (Some (Tampered place)) unspent going = absurd (cc)
-unspent_going (Some (Spent page)) unspent going = absurd (unspent page refl)
-unspent_going (Some NoMemory) unspent going = absurd (cc)
-
-module _ {T : Type 0} (d n : T → List ℕ → List ℕ) (counters counters' : CountersView) (old new : BusHistory) (engine engine' : TagEngineView T) (page : ℕ) where
-  module _ (result : Result CounterBlockView MemStop)
-      (had : HadCounters (tags_of d n) counters old engine counters' new engine' page (result_err result)) where
-    pub had_few : KeepsFew counters counters'
-    had_few = record {
-      blocks = λ few. few_blocks counters'.tree.geometry counters'.blocks had.copies.blocks;
-      nodes = λ level few. had.copies.few_nodes level;
-    }
-
-    pub had_came : HoldsCounters (tags_of d n) counters old engine → engine'.evidence ≡ None →
-        CopiesCame page old engine.made counters new engine'.made counters' (result_err result)
-    had_came holds quiet = record {
-      blocks = has_pages d n page counters counters' old new engine engine' (result_err result) had.has had.copies.blocks holds quiet;
-      nodes = had.has.read holds quiet;
-      nodes_came = had.has.came holds quiet;
-      blocks_came = λ goes. had.blocks_came holds quiet (unspent_going (result_err result) had.has.unspent goes);
-    }
-
-    pub had_pages : (geometry : GeometryView) → counters.tree.geometry ≡ geometry → (other : ℕ) → Contains (cached_pages counters') other → other < page_count geometry
-    had_pages geometry same = pages_inside counters'.tree.geometry geometry counters'.blocks (had.has.geometry ∙ same) had.copies.blocks
-
-  -- its counters, as they were answered
-  ok_had : (result : Result CounterBlockView MemStop) (block : CounterBlockView) → result ≡ Ok block →
-      AreBlocksAfter (tags_of d n engine) counters counters' engine'.made page engine.evidence engine'.evidence (result_err result) →
-      BlockHad (tags_of d n engine) counters counters' engine'.made page engine.evidence engine'.evidence
-  ok_had (Ok value) block is had = had
-  ok_had (Err stop) block is had = absurd (cc)
-
-  answered : (result : Result CounterBlockView MemStop) (block : CounterBlockView) → result ≡ Ok block →
-      IfOk result (λ value. value ≡ counters_in counters' engine'.made page) → block ≡ counters_in counters' engine'.made page
-  answered (Ok value) block is holds = let same : value ≡ block = cc in sym same ∙ holds
-  answered (Err stop) block is holds = absurd (cc)
-
-  module _ (result : Result CounterBlockView MemStop)
-      (had : HadCounters (tags_of d n) counters old engine counters' new engine' page (result_err result))
-      (answer : IfOk result (λ block. block ≡ counters_in counters' engine'.made page)) where
-    pub had_checked : (block : CounterBlockView) → result ≡ Ok block →
-        AreHad (tags_of d n engine) counters counters' engine'.made page engine.evidence engine'.evidence block
-    had_checked block is =
-        let b = ok_had result block is had.blocks in
+    -- they are those of a copy, or of a block that was checked
+    pub got_checked : (block : CounterBlockView) → block ≡ counters_in counters' new.engine.made (page_of line) →
+        AreHad (tags_of d n old.engine) counters counters' new.engine.made (page_of line) old.engine.evidence new.engine.evidence block
+    got_checked block is =
+        let b = first.had.blocks in
         record {
           bytes = b.bytes;
           had = b.had;
-          spelled = answered result block is answer ∙ counters_of_copy counters' engine'.made page b.bytes b.copied;
+          spelled = is ∙ counters_of_copy counters' new.engine.made (page_of line) b.bytes b.copied;
         }
-
-    pub had_accepted : (made_at : ℕ) (bytes tag : List ℕ) → engine.evidence ≡ None → engine'.evidence ≡ Some (Collision 0 page made_at bytes tag) →
-        result ≡ Ok (block_of bytes)
-    had_accepted made_at bytes tag quiet is = elim (ok_or_stop result) [
-      | inl ok ↦
-          let h = had_checked ok.0 ok.1 in
-          ok.1 ∙ ap (λ (block : CounterBlockView). Ok block) (h.spelled ∙ ap (λ (b : List ℕ). block_of b) (h.had.accepted quiet made_at bytes tag is))
-      | inr stop ↦ let both : Some stop.0 ≡ None = sym stop.1 ∙ had.accepted quiet made_at bytes tag is in absurd (cc)
-    ]
-
-    pub had_latest : OnOk result (IsLatest counters'.blocks page)
-    had_latest = ok_by result (λ goes. elim (ok_or_stop result) [
-      | inl ok ↦ (ok_had result ok.0 ok.1 had.blocks).latest
-      | inr stop ↦ let both : Some stop.0 ≡ None = sym stop.1 ∙ goes in absurd (cc)
-    ])
 
 -- What a write that was counted makes of the memory outside with its counters: nothing but the page's counters change.
 pub record CountedUpBy {B T : Type 0} (history : B → BusHistory) (moved : B → List Access → B → Type 0) (d n : T → List ℕ → List ℕ) (outside : OutsideView B T)

@@ -1,13 +1,12 @@
 -- The steps of a write of a line: its page's counters are had, memory is taken, they are counted up, and its lines are
 -- sealed.
-use Rattle.std.proofs.Common.{◌≡◌, ◌≢◌, ◌⊎◌, inl, inr, ℕ, ◌+◌, ◌<◌, ◌≤◌, max, List, [], ◌∷◌, ◌++◌, length, map, take, replicate, slice_index, slice_set, Option, Some, None, Contains, Result, Ok, Err, OnOk, refl, ap, sym, ◌∙◌, subst, arith, length-append}
-use Rattle.std.specs.Result.{result_err}
+use Rattle.std.proofs.Common.{◌≡◌, ◌≢◌, ◌⊎◌, inl, inr, ℕ, ◌+◌, ◌<◌, ◌≤◌, max, List, [], ◌∷◌, ◌++◌, length, map, take, replicate, slice_index, slice_set, Option, Some, None, Contains, refl, ap, sym, ◌∙◌, subst, arith, length-append}
 use Rattle.std.proofs.lemmas.Bool.{cases_eq}
 use Rattle.std.proofs.lemmas.List.{get_or-replicate, get_or-set_same, get_or-set_other, take_all}
 use Rattle.sec_base.specs.declared.counter.Counter.{Counter}
 use Rattle.sec_base.specs.declared.message.Message.TheVariants.{Line as line_message}
 use Rattle.sec_base.specs.declared.place.Place.{Place}
-use Rattle.sec_base.specs.declared.place.Place.TheVariants.{Line as line_place, Node as node_place}
+use Rattle.sec_base.specs.declared.place.Place.TheVariants.{Line as line_place}
 use Rattle.sec_base.specs.declared.stop.MemStop.{MemStop}
 use Rattle.sec_base.specs.declared.stop.MemStop.TheVariants.{Tampered, Spent, NoMemory}
 use Rattle.sec_base.specs.Count.{Rose}
@@ -22,39 +21,24 @@ use Rattle.pad_stream.specs.Pads.{IsBefore}
 use Rattle.checked_bus.specs.Makes.{MakesAccesses}
 use Rattle.checked_bus.specs.SealedLine.{sealed_line}
 use Rattle.checked_bus.specs.Steps.{IsAccounted, Moves as StepMoves}
+use Rattle.checked_bus.proofs.Steps.{moves_not as step_not}
 use Rattle.split_counter.specs.declared.bumped.Bumped.{Bumped}
 use Rattle.split_counter.specs.declared.bumped.Bumped.TheVariants.{Line as line_up, Page as page_up, Spent as used_up}
 use Rattle.split_counter.specs.CounterBlock.{CounterBlockView, IsCounterBlock, after_bump, after_outcome, bumped, counter_of, last_counter, next_counter, place_of}
 use Rattle.bonsai_tree.specs.Tree.{IsFetchPlace, PathWasRead}
 use Rattle.counter_cache.specs.Counters.{CountersView, SameCounters, cached_pages, counter_accesses, counters_in}
 use Rattle.page_reencrypt.specs.Contents.{counter_in, lines_encrypted, page_lines}
-use Rattle.page_reencrypt.specs.Outside.{AreConsistent, AreSealed, AreSealedInOrder, CountersFit, CountersSay, DiffersInRoom, HasCounter, HaveLast, HaveLastNodes, HaveRisen, IsWrite, LineWrite, MemoryTerms, OutsideView, terms_of, with_room}
-use Rattle.page_reencrypt.specs.SealedLines.{CopiesCame, IsOfPage, KeepsFew}
+use Rattle.page_reencrypt.specs.Outside.{AreConsistent, AreSealed, AreSealedInOrder, CountersFit, CountersSay, DiffersInRoom, HasCounter, HaveLast, HaveRisen, IsWrite, LineWrite, MemoryTerms, OutsideView, terms_of, with_room}
+use Rattle.page_reencrypt.specs.SealedLines.{CopiesCame, IsOfPage}
 use Rattle.page_reencrypt.specs.Stops.{lasting_stop}
 use Rattle.page_reencrypt.proofs.Consistency.{counter_in-same, counter_in-other}
+use Rattle.page_reencrypt.proofs.CountersHad.{CountedUpBy, IsGot}
 use Rattle.page_reencrypt.proofs.Entries.{counter_among, counter_beside, encrypted_line, encrypted_page, listed_page, next_after, next_line, next_page, page_listed}
-use Rattle.page_reencrypt.proofs.Reaching.{HasCome, IsReached, come_idle, come_on, early_write, late_counters, late_write, path_more, reached_idle, reached_on, reached_risen, reached_roomy, reached_spent}
+use Rattle.page_reencrypt.proofs.Reaching.{HasCome, IsReached, come_idle, come_on, early_write, late_counters, late_write, path_more, reached_risen, reached_roomy, reached_spent, reached_up}
+use Rattle.page_reencrypt.proofs.Stops.{unspent_going}
+use Rattle.page_reencrypt.proofs.UnderCounters.{counted_as_foreseen, foreseen_by}
+use Rattle.counter_cache.specs.HadCounters.{IsCounted}
 use Rattle.page_reencrypt.proofs.Sealing.{all_in_order, listed_one, one_sealed, one_unwritten, own_reread, same_terms}
-
--- What a call answered
-
-pub ok_where : {A P : Type 0} (result : Result A MemStop) → OnOk result P → ((page : ℕ) → result ≢ Err (Spent page)) → lasting_stop (result_err result) ≡ None → P
-ok_where (Ok value) holds unspent going = holds
-ok_where (Err (Tampered place)) holds unspent going = absurd (cc)
-ok_where (Err (Spent page)) holds unspent going = absurd (unspent page refl)
-ok_where (Err NoMemory) holds unspent going = absurd (cc)
-
--- a stop that is not of a spent page lasts
-pub lasts : (why : MemStop) → ((page : ℕ) → why ≢ Spent page) → lasting_stop (Some why) ≢ None
-lasts (Tampered place) unspent is = absurd (cc)
-lasts (Spent page) unspent is = unspent page refl
-lasts NoMemory unspent is = absurd (cc)
-
-going_on : (stop : Option MemStop) → ((page : ℕ) → stop ≢ Some (Spent page)) → lasting_stop stop ≡ None → stop ≡ None
-going_on None unspent going = refl
-going_on (Some (Tampered place)) unspent going = absurd (cc)
-going_on (Some (Spent page)) unspent going = absurd (unspent page refl)
-going_on (Some NoMemory) unspent going = absurd (cc)
 
 max-right : (first second : ℕ) → second ≤ max first second
 max-right first second = omega arith
@@ -188,10 +172,10 @@ module _ {B T : Type 0} (history : B → BusHistory) (moved : B → List Access 
 
   -- it stopped before a line was sealed
   pub stopped_early : (new : OutsideView B T) (counters' : CountersView) (why : MemStop) → IsReached terms old counters new counters' (Some why) →
-      (limit line : ℕ) (bytes : List ℕ) → HaveRisen terms old → ((page : ℕ) → why ≢ Spent page) →
+      (limit line : ℕ) (bytes : List ℕ) → HaveRisen terms old → ((page : ℕ) → Some why ≢ Some (Spent page)) →
       (new.engine.evidence ≡ None → SameCounters counters old.engine.made counters' new.engine.made)
       ⊎ ((64 ≤ new.pads.room) × (length old.engine.made + 64 ≤ length new.engine.made + new.engine.room)) →
-      ((place : Place) → why ≡ Tampered place → IsFetchPlace terms.geometry (page_of line) place
+      ((place : Place) → Some why ≡ Some (Tampered place) → IsFetchPlace terms.geometry (page_of line) place
       × (old.engine.evidence ≡ None → Rose (history old.bus).lies (history new.bus).lies)) →
       (new.engine.evidence ≡ None → counter_in old.pads.used line ≡ last_counter limit →
       SameCounters counters old.engine.made counters' new.engine.made
@@ -199,9 +183,8 @@ module _ {B T : Type 0} (history : B → BusHistory) (moved : B → List Access 
       HasCome terms (page_of line) old counters new counters' (Some why) → IsWrite terms limit line bytes old counters new counters' (Some why)
   stopped_early new counters' why reached limit line bytes rose unspent reserved tampered last come =
       early_write terms old counters new counters' (Some why) reached limit line bytes rose (λ is. cc)
-      (λ going. absurd (lasts why unspent going)) reserved
-      (λ place is. let same : why ≡ Tampered place = cc in tampered place same)
-      (λ page is. let same : why ≡ Spent page = cc in absurd (unspent page same)) last come
+      (λ going. let none : Some why ≡ None = unspent_going (Some why) unspent going in absurd (cc)) reserved tampered
+      (λ page is. absurd (unspent page is)) last come
 
   -- it was spent
   pub spent_early : (new : OutsideView B T) (counters' : CountersView) (page : ℕ) → IsReached terms old counters new counters' None →
@@ -225,19 +208,15 @@ module _ {B T : Type 0} (history : B → BusHistory) (moved : B → List Access 
       (moved_on : (first second third : B) (before after : List Access) → moved first before second → moved second after third → moved first (before ++ after) third) where
     pub refused_reached : (new : OutsideView B T) → DiffersInRoom got new → IsReached terms old counters new counters' (Some NoMemory)
     refused_reached new differs =
-        reached_on terms moved_on old got new counters counters' counters' (Some NoMemory) a
-        (reached_roomy terms got new counters' (Some NoMemory) differs.room got.pads unmoved a.node.consistent a.node.holds_last (a.node.nodes_hold_last (λ is. cc))
-        (a.fits refl) (λ place is. cc) refl refl
+        reached_roomy terms unmoved moved_on old got new counters counters' (Some NoMemory) differs.room got.pads (λ place is. cc) refl refl
         (ap (λ (b : B). let o : OutsideView B T = record { bus = b; engine = new.engine; pads = new.pads } in o) differs.bus
         ∙ ap (λ (e : TagEngineView T). let o : OutsideView B T = record { bus = got.bus; engine = e; pads = new.pads } in o) differs.engine
-        ∙ ap (λ (p : PadEngineView). let o : OutsideView B T = record { bus = got.bus; engine = tags_with_room differs.room got.engine; pads = p } in o) differs.pads))
+        ∙ ap (λ (p : PadEngineView). let o : OutsideView B T = record { bus = got.bus; engine = tags_with_room differs.room got.engine; pads = p } in o) differs.pads) a
 
     module _ (roomy : OutsideView B T) (taken : roomy ≡ with_room 64 64 got) where
       pub roomy_reached : IsReached terms old counters roomy counters' None
       roomy_reached =
-          reached_on terms moved_on old got roomy counters counters' counters' None a
-          (reached_roomy terms got roomy counters' None 64 (pads_with_room 64 got.pads) unmoved a.node.consistent a.node.holds_last
-          (a.node.nodes_hold_last (λ is. cc)) (a.fits refl) (λ place is. cc) refl refl taken)
+          reached_roomy terms unmoved moved_on old got roomy counters counters' None 64 (pads_with_room 64 got.pads) (λ place is. cc) refl refl taken a
 
       roomy_terms : terms_of history moved d n roomy ≡ terms
       roomy_terms = same_terms history moved d n old roomy roomy_reached.node.step.tagger roomy_reached.node.step.geometry
@@ -251,322 +230,305 @@ module _ {B T : Type 0} (history : B → BusHistory) (moved : B → List Access 
       roomy_pads : 64 ≤ roomy.pads.room
       roomy_pads = let room = ap (λ (o : OutsideView B T). o.pads.room) taken in omega (arith, room, max-right got.pads.room 64)
 
-      -- and then the counters were counted up
-      module _ (mid : OutsideView B T) (counters'' : CountersView) (b : IsReached (terms_of history moved d n roomy) roomy counters' mid counters'' None) where
-        mid_reached : IsReached terms old counters mid counters'' None
-        mid_reached =
-            reached_on terms moved_on old roomy mid counters counters' counters'' None roomy_reached
-            (subst (λ (t : MemoryTerms B). IsReached t roomy counters' mid counters'' None) roomy_terms b)
-
-        -- there is memory for a page
-        mid_room : mid.pads ≡ roomy.pads → mid.engine ≡ roomy.engine →
-            (64 ≤ mid.pads.room) × (64 ≤ mid.engine.room) × (length old.engine.made + 64 ≤ length mid.engine.made + mid.engine.room)
-        mid_room pads engine =
-            let same = ap (λ (p : PadEngineView). p.room) pads in
-            let made = ap length mid_reached.node.step.made ∙ length-append old.engine.made mid_reached.node.step.more in
-            let enough : 64 ≤ mid.engine.room = omega (arith, ap (λ (e : TagEngineView T). e.room) engine, roomy_room) in
-            (omega (arith, same, roomy_pads), enough, omega (arith, made, enough))
+      -- there is memory for a page
+      roomy_rooms : (64 ≤ roomy.pads.room) × (64 ≤ roomy.engine.room) × (length old.engine.made + 64 ≤ length roomy.engine.made + roomy.engine.room)
+      roomy_rooms =
+          let made = ap length roomy_reached.node.step.made ∙ length-append old.engine.made roomy_reached.node.step.more in
+          (roomy_pads, roomy_room, omega (arith, made, roomy_room))
 
   -- The counters of the page were had: its block says that of the line, by which a write was foreseen.
-  pub record HadCounters (limit line page place : ℕ) (got : OutsideView B T) (counters' : CountersView) (block : CounterBlockView) (counter : Counter) (foreseen : Bumped) : Type 0 where
-    pub reached : IsReached terms old counters got counters' None
+  pub record IsForeseen (limit line page place : ℕ) (got : OutsideView B T) (counters' : CountersView) (block : CounterBlockView) (counter : Counter) (foreseen : Bumped) : Type 0 where
+    pub got_is : IsGot history moved d n line old counters got counters' None
     pub inside : line < line_count old.engine.geometry
     pub page_is : page ≡ page_of line
     pub place_is : place ≡ place_of line
-    pub same : got.engine.evidence ≡ None → SameCounters counters old.engine.made counters' got.engine.made
-    pub come : HasCome terms page old counters got counters' None
-    pub block_is : got.engine.evidence ≡ None → block ≡ counters_in counters old.engine.made page
+    pub answer : block ≡ counters_in counters' got.engine.made page
     pub is_block : IsCounterBlock block
     pub counter_is : counter ≡ counter_of place block
     pub foreseen_is : foreseen ≡ bumped limit counter
 
-  module _ (say : CountersSay terms old counters) (limit line page place : ℕ) (got : OutsideView B T) (counters' : CountersView) (block : CounterBlockView)
-      (counter0 : Counter) (foreseen : Bumped) (had : HadCounters limit line page place got counters' block counter0 foreseen) where
-    abbrev got_quiet : got.engine.evidence ≡ None → old.engine.evidence ≡ None
-    got_quiet quiet = was_none old.engine.evidence got.engine.evidence had.reached.node.step.evidence quiet
+pub foreseen_of : {B T : Type 0} {history : B → BusHistory} {moved : B → List Access → B → Type 0} {d n : T → List ℕ → List ℕ} {old : OutsideView B T} {counters : CountersView}
+    {line page place : ℕ} {got : OutsideView B T} {counters' : CountersView} {block : CounterBlockView} {counter : Counter} {foreseen : Bumped} (limit : ℕ) →
+    IsGot history moved d n line old counters got counters' None → line < line_count old.engine.geometry → page ≡ page_of line → place ≡ place_of line →
+    block ≡ counters_in counters' got.engine.made page → IsCounterBlock block → counter ≡ counter_of place block → foreseen ≡ bumped limit counter →
+    IsForeseen history moved d n old counters limit line page place got counters' block counter foreseen
+foreseen_of limit got inside page_is place_is answer is_block counter_is foreseen_is = record {
+  got_is = got;
+  inside = inside;
+  page_is = page_is;
+  place_is = place_is;
+  answer = answer;
+  is_block = is_block;
+  counter_is = counter_is;
+  foreseen_is = foreseen_is;
+}
 
-    pub block_at : got.engine.evidence ≡ None → block ≡ counters_in counters old.engine.made (page_of line)
-    block_at quiet = had.block_is quiet ∙ ap (counters_in counters old.engine.made) had.page_is
+module _ {B T : Type 0} {history : B → BusHistory} {moved : B → List Access → B → Type 0} {d n : T → List ℕ → List ℕ} {old : OutsideView B T} {counters : CountersView}
+    (say : CountersSay (terms_of history moved d n old) old counters) {limit line page place : ℕ} {got : OutsideView B T} {counters' : CountersView} {block : CounterBlockView}
+    {counter0 : Counter} {foreseen : Bumped} (had : IsForeseen history moved d n old counters limit line page place got counters' block counter0 foreseen) where
+  abbrev seen : MemoryTerms B
+  seen = terms_of history moved d n old
 
-    page_within : page_of line < page_count terms.geometry
-    page_within = omega (arith, had.inside)
+  abbrev got_quiet : got.engine.evidence ≡ None → old.engine.evidence ≡ None
+  got_quiet quiet = was_none old.engine.evidence got.engine.evidence had.got_is.reached.node.step.evidence quiet
 
-    -- the line's counter
-    pub counter_here : got.engine.evidence ≡ None → counter_in old.pads.used line ≡ counter0
-    counter_here quiet =
-        say (got_quiet quiet) (page_of line) page_within line refl
-        ∙ ap (counter_of (place_of line)) (sym (block_at quiet))
-        ∙ ap (λ (p : ℕ). counter_of p block) (sym had.place_is) ∙ sym had.counter_is
+  pub block_at : got.engine.evidence ≡ None → block ≡ counters_in counters old.engine.made (page_of line)
+  block_at quiet = had.answer ∙ had.got_is.same quiet page ∙ ap (counters_in counters old.engine.made) had.page_is
 
-    -- and then they were counted up
-    pub record CountedUp (roomy mid : OutsideView B T) (counters'' : CountersView) (outcome : Bumped) : Type 0 where
-      pub taken : roomy ≡ with_room 64 64 got
-      pub reached : IsReached (terms_of history moved d n roomy) roomy counters' mid counters'' None
-      pub pads : mid.pads ≡ roomy.pads
-      pub engine : mid.engine ≡ roomy.engine
-      pub come : HasCome terms page old counters mid counters'' None
-      pub outcome_is : mid.engine.evidence ≡ None → outcome ≡ bumped limit (counter_of place (counters_in counters' roomy.engine.made page))
-      pub now : mid.engine.evidence ≡ None → counters_in counters'' mid.engine.made page ≡ (after_bump place limit (counters_in counters' roomy.engine.made page)).1
-      pub others : mid.engine.evidence ≡ None → (other : ℕ) → other ≢ page → counters_in counters'' mid.engine.made other ≡ counters_in counters' roomy.engine.made other
+  page_within : page_of line < page_count seen.geometry
+  page_within = omega (arith, had.inside)
 
-    module _ (unmoved : (bus : B) → moved bus [] bus) (moved_on : (first second third : B) (before after : List Access) → moved first before second → moved second after third → moved first (before ++ after) third)
-        (roomy mid : OutsideView B T) (counters'' : CountersView) (outcome : Bumped) where
-      -- by what a bump of counters on the chip makes of the memory outside
-      pub counted_up : roomy ≡ with_room 64 64 got → (mid.bus ≡ roomy.bus) × (mid.engine ≡ roomy.engine) →
-          mid.pads ≡ roomy.pads → counters''.tree.geometry ≡ counters'.tree.geometry →
-          KeepsFew counters' counters'' →
-          (CountersFit (terms_of history moved d n roomy) roomy counters' → mid.engine.evidence ≡ None →
-          CopiesCame page (history roomy.bus) roomy.engine.made counters' (history mid.bus) mid.engine.made counters'' None) →
-          (CountersFit (terms_of history moved d n roomy) roomy counters' → CountersFit (terms_of history moved d n roomy) mid counters'') →
-          (CountersFit (terms_of history moved d n roomy) roomy counters' → roomy.engine.evidence ≡ None →
-          outcome ≡ bumped limit (counter_of place (counters_in counters' roomy.engine.made page))) →
-          (CountersFit (terms_of history moved d n roomy) roomy counters' → roomy.engine.evidence ≡ None →
-          counters_in counters'' mid.engine.made page ≡ (after_bump place limit (counters_in counters' roomy.engine.made page)).1) →
-          (CountersFit (terms_of history moved d n roomy) roomy counters' → roomy.engine.evidence ≡ None → (other : ℕ) → other ≢ page →
-          counters_in counters'' mid.engine.made other ≡ counters_in counters' roomy.engine.made other) → CountedUp roomy mid counters'' outcome
-      counted_up taken idle pads geometry few copies fits outcome_is now others =
-          let fit = roomy_fits got counters' had.reached unmoved moved_on roomy taken in
-          let node = (roomy_reached got counters' had.reached unmoved moved_on roomy taken).node in
-          let same_terms_now = roomy_terms got counters' had.reached unmoved moved_on roomy taken in
-          let had_come : HasCome terms page old counters roomy counters' None =
-          come_idle terms page old got roomy counters counters' None (ap (λ (o : OutsideView B T). o.bus) taken) (ap (λ (o : OutsideView B T). o.engine.made) taken)
-          (ap (λ (o : OutsideView B T). o.engine.evidence) taken) had.come in
-          let up_idle =
-          reached_idle (terms_of history moved d n roomy) roomy counters' mid counters'' unmoved
-          (subst (λ (t : MemoryTerms B). AreConsistent t roomy) (sym same_terms_now) node.consistent)
-          (subst (λ (t : MemoryTerms B). HaveLast t roomy) (sym same_terms_now) node.holds_last)
-          (subst (λ (t : MemoryTerms B). HaveLastNodes t roomy) (sym same_terms_now) (node.nodes_hold_last (λ is. cc)))
-          idle.0 idle.1 pads geometry (fits fit) in
-          let quiet_then : mid.engine.evidence ≡ None → roomy.engine.evidence ≡ None = λ quiet. sym (ap (λ (e : TagEngineView T). e.evidence) idle.1) ∙ quiet in
-          record {
-            taken = taken;
-            reached = up_idle;
-            pads = pads;
-            engine = idle.1;
-            come = come_on terms page old roomy mid counters counters' counters'' None had.reached.geometry node.step up_idle.node.step had_come
-                (record {
-                  few = few;
-                  copies = copies fit;
-                  unread = λ quiet level index none. ap (λ (b : B). (history b).reads (node_place level index)) idle.0;
-                });
-            outcome_is = λ quiet. outcome_is fit (quiet_then quiet);
-            now = λ quiet. now fit (quiet_then quiet);
-            others = λ quiet. others fit (quiet_then quiet);
-          }
+  -- the line's counter
+  pub counter_here : got.engine.evidence ≡ None → counter_in old.pads.used line ≡ counter0
+  counter_here quiet =
+      say (got_quiet quiet) (page_of line) page_within line refl
+      ∙ ap (counter_of (place_of line)) (sym (block_at quiet))
+      ∙ ap (λ (p : ℕ). counter_of p block) (sym had.place_is) ∙ sym had.counter_is
 
-    module _ (unmoved : (bus : B) → moved bus [] bus) (moved_on : (first second third : B) (before after : List Access) → moved first before second → moved second after third → moved first (before ++ after) third)
-        (roomy mid : OutsideView B T) (counters'' : CountersView) (outcome : Bumped) (up : CountedUp roomy mid counters'' outcome) where
-      up_reached : IsReached terms old counters mid counters'' None
-      up_reached = mid_reached got counters' had.reached unmoved moved_on roomy up.taken mid counters'' up.reached
+  -- a write is foreseen by the counters that were had, and counting it comes to that
+  pub foreseen_here : foreseen ≡ bumped limit (counter_of (place_of line) (counters_in counters' got.engine.made (page_of line)))
+  foreseen_here =
+      foreseen_by counters' got.engine.made line page place limit block counter0 foreseen had.page_is had.place_is had.answer had.counter_is had.foreseen_is
 
-      up_room : (64 ≤ mid.pads.room) × (64 ≤ mid.engine.room) × (length old.engine.made + 64 ≤ length mid.engine.made + mid.engine.room)
-      up_room = mid_room got counters' had.reached unmoved moved_on roomy up.taken mid counters'' up.reached up.pads up.engine
+  pub counted_here : {counters'' : CountersView} {outcome : Bumped} → IsCounted counters' counters'' page place limit outcome → outcome ≡ foreseen
+  counted_here {counters''} {outcome} is =
+      counted_as_foreseen counters' counters'' got.engine.made page place limit block counter0 foreseen outcome had.answer had.counter_is had.foreseen_is is
 
-      up_come : HasCome terms (page_of line) old counters mid counters'' None
-      up_come = subst (λ (p : ℕ). HasCome terms p old counters mid counters'' None) had.page_is up.come
+  -- and then they were counted up
+  pub record CountedUp (roomy : OutsideView B T) (counters'' : CountersView) (outcome : Bumped) : Type 0 where
+    pub taken : roomy ≡ with_room 64 64 got
+    pub reached : IsReached seen old counters roomy counters'' None
+    pub come : HasCome seen (page_of line) old counters roomy counters'' None
+    pub by : CountedUpBy history moved d n roomy counters' counters'' page place limit outcome
 
-      mid_quiet : mid.engine.evidence ≡ None → got.engine.evidence ≡ None
-      mid_quiet quiet =
-          let before = was_none roomy.engine.evidence mid.engine.evidence up.reached.node.step.evidence quiet in
-          sym (ap (λ (o : OutsideView B T). o.engine.evidence) up.taken) ∙ before
+  pub counted_up : (unmoved : (bus : B) → moved bus [] bus)
+      (moved_on : (first second third : B) (before after : List Access) → moved first before second → moved second after third → moved first (before ++ after) third)
+      (roomy : OutsideView B T) (counters'' : CountersView) (outcome : Bumped) → roomy ≡ with_room 64 64 got →
+      CountedUpBy history moved d n roomy counters' counters'' page place limit outcome → CountedUp roomy counters'' outcome
+  counted_up unmoved moved_on roomy counters'' outcome taken by =
+      let fit = roomy_fits history moved d n old counters got counters' had.got_is.reached unmoved moved_on roomy taken in
+      let before = roomy_reached history moved d n old counters got counters' had.got_is.reached unmoved moved_on roomy taken in
+      let had_come : HasCome seen (page_of line) old counters roomy counters' None =
+      come_idle seen (page_of line) old got roomy counters counters' None (ap (λ (o : OutsideView B T). o.bus) taken) (ap (λ (o : OutsideView B T). o.engine.made) taken)
+      (ap (λ (o : OutsideView B T). o.engine.evidence) taken) had.got_is.come in
+      record {
+        taken = taken;
+        reached = reached_up seen old counters roomy counters' counters'' before by.geometry
+            (subst (λ (t : MemoryTerms B). CountersFit t roomy counters'') (roomy_terms history moved d n old counters got counters' had.got_is.reached unmoved moved_on roomy taken) (by.fits fit));
+        come = come_on seen (page_of line) old roomy roomy counters counters' counters'' None had.got_is.reached.geometry before.node.step
+            (step_not (history roomy.bus) roomy.engine) had_come
+            (record {
+              few = by.few;
+              copies = λ quiet.
+                  subst (λ (p : ℕ). CopiesCame p (history roomy.bus) roomy.engine.made counters' (history roomy.bus) roomy.engine.made counters'' None) had.page_is
+                  (by.came fit quiet);
+              unread = λ quiet level index none. refl;
+            });
+        by = by;
+      }
 
-      roomy_block : mid.engine.evidence ≡ None → (other : ℕ) → counters_in counters' roomy.engine.made other ≡ counters_in counters old.engine.made other
-      roomy_block quiet other = ap (λ (o : OutsideView B T). counters_in counters' o.engine.made other) up.taken ∙ had.same (mid_quiet quiet) other
+  module _ (unmoved : (bus : B) → moved bus [] bus) (moved_on : (first second third : B) (before after : List Access) → moved first before second → moved second after third → moved first (before ++ after) third)
+      {roomy : OutsideView B T} {counters'' : CountersView} {outcome : Bumped} (up : CountedUp roomy counters'' outcome) where
+    up_room : (64 ≤ roomy.pads.room) × (64 ≤ roomy.engine.room) × (length old.engine.made + 64 ≤ length roomy.engine.made + roomy.engine.room)
+    up_room = roomy_rooms history moved d n old counters got counters' had.got_is.reached unmoved moved_on roomy up.taken
 
-      up_bumped : mid.engine.evidence ≡ None → bumped limit (counter_of place (counters_in counters old.engine.made (page_of line))) ≡ outcome
-      up_bumped quiet =
-          sym (up.outcome_is quiet
-          ∙ ap (λ (b : CounterBlockView). bumped limit (counter_of place b)) (roomy_block quiet page ∙ ap (counters_in counters old.engine.made) had.page_is))
+    mid_quiet : roomy.engine.evidence ≡ None → got.engine.evidence ≡ None
+    mid_quiet quiet = sym (ap (λ (o : OutsideView B T). o.engine.evidence) up.taken) ∙ quiet
 
-      -- as it was foreseen
-      pub up_foreseen : mid.engine.evidence ≡ None → foreseen ≡ outcome
-      up_foreseen quiet =
-          had.foreseen_is ∙ ap (bumped limit) had.counter_is
-          ∙ ap (λ (b : CounterBlockView). bumped limit (counter_of place b)) (block_at (mid_quiet quiet)) ∙ up_bumped quiet
+    roomy_block : roomy.engine.evidence ≡ None → (other : ℕ) → counters_in counters' roomy.engine.made other ≡ counters_in counters old.engine.made other
+    roomy_block quiet other = ap (λ (o : OutsideView B T). counters_in counters' o.engine.made other) up.taken ∙ had.got_is.same (mid_quiet quiet) other
 
-      up_now : mid.engine.evidence ≡ None →
-          counters_in counters'' mid.engine.made (page_of line) ≡ (after_bump place limit (counters_in counters old.engine.made (page_of line))).1
-      up_now quiet =
-          subst (λ (p : ℕ). counters_in counters'' mid.engine.made p ≡ (after_bump place limit (counters_in counters' roomy.engine.made p)).1) had.page_is (up.now quiet)
-          ∙ ap (λ (b : CounterBlockView). (after_bump place limit b).1) (roomy_block quiet (page_of line))
+    up_bumped : roomy.engine.evidence ≡ None → bumped limit (counter_of place (counters_in counters old.engine.made (page_of line))) ≡ outcome
+    up_bumped quiet =
+        sym (up.by.outcome_is
+        ∙ ap (λ (b : CounterBlockView). bumped limit (counter_of place b)) (roomy_block quiet page ∙ ap (counters_in counters old.engine.made) had.page_is))
 
-      up_others : mid.engine.evidence ≡ None → (other : ℕ) → other ≢ page_of line →
-          counters_in counters'' mid.engine.made other ≡ counters_in counters old.engine.made other
-      up_others quiet other differs = up.others quiet other (λ same. differs (same ∙ had.page_is)) ∙ roomy_block quiet other
+    -- as it was foreseen
+    pub up_foreseen : roomy.engine.evidence ≡ None → foreseen ≡ outcome
+    up_foreseen quiet =
+        had.foreseen_is ∙ ap (bumped limit) had.counter_is
+        ∙ ap (λ (b : CounterBlockView). bumped limit (counter_of place b)) (block_at (mid_quiet quiet)) ∙ up_bumped quiet
 
-      mid_terms : terms_of history moved d n mid ≡ terms
-      mid_terms = same_terms history moved d n old mid up_reached.node.step.tagger up_reached.node.step.geometry
+    up_now : roomy.engine.evidence ≡ None →
+        counters_in counters'' roomy.engine.made (page_of line) ≡ (after_bump place limit (counters_in counters old.engine.made (page_of line))).1
+    up_now quiet =
+        subst (λ (p : ℕ). counters_in counters'' roomy.engine.made p ≡ (after_bump place limit (counters_in counters' roomy.engine.made p)).1) had.page_is up.by.now
+        ∙ ap (λ (b : CounterBlockView). (after_bump place limit b).1) (roomy_block quiet (page_of line))
 
-      pub mid_kept : AreConsistent (terms_of history moved d n mid) mid
-      mid_kept = subst (λ (t : MemoryTerms B). AreConsistent t mid) (sym mid_terms) up_reached.node.consistent
+    up_others : roomy.engine.evidence ≡ None → (other : ℕ) → other ≢ page_of line →
+        counters_in counters'' roomy.engine.made other ≡ counters_in counters old.engine.made other
+    up_others quiet other differs = up.by.others other (λ same. differs (same ∙ had.page_is)) ∙ roomy_block quiet other
 
-      pub mid_last : HaveLast (terms_of history moved d n mid) mid
-      mid_last = subst (λ (t : MemoryTerms B). HaveLast t mid) (sym mid_terms) up_reached.node.holds_last
+    mid_terms : terms_of history moved d n roomy ≡ seen
+    mid_terms = same_terms history moved d n old roomy up.reached.node.step.tagger up.reached.node.step.geometry
 
-      pub mid_rose : HaveRisen terms old → HaveRisen (terms_of history moved d n mid) mid
-      mid_rose rose = reached_risen terms old counters mid counters'' None up_reached rose
+    pub mid_kept : AreConsistent (terms_of history moved d n roomy) roomy
+    mid_kept = subst (λ (t : MemoryTerms B). AreConsistent t roomy) (sym mid_terms) up.reached.node.consistent
 
-      pub mid_inside : line < line_count mid.engine.geometry
-      mid_inside = subst (λ (l : GeometryView). line < line_count l) (sym up_reached.node.step.geometry) had.inside
+    pub mid_last : HaveLast (terms_of history moved d n roomy) roomy
+    mid_last = subst (λ (t : MemoryTerms B). HaveLast t roomy) (sym mid_terms) up.reached.node.holds_last
 
-      -- each line of the page has the counter that its block said
-      pub mid_counters : (old.engine.evidence ≡ None → (at : ℕ) → HasCounter old.pads.used at (counter_in old.pads.used at)) → mid.engine.evidence ≡ None →
-          (at : ℕ) → page_of at ≡ page_of line → HasCounter mid.pads.used at (counter_of (place_of at) block)
-      mid_counters started quiet at of_page =
-          let was_quiet = got_quiet (mid_quiet quiet) in
-          let said : counter_in old.pads.used at ≡ counter_of (place_of at) block =
-          say was_quiet (page_of line) page_within at of_page ∙ ap (counter_of (place_of at)) (sym (block_at (mid_quiet quiet))) in
-          subst (λ (u : List (ℕ × Counter)). HasCounter u at (counter_of (place_of at) block)) (sym up_reached.node.used)
-          (subst (HasCounter old.pads.used at) said (started was_quiet at))
+    pub mid_rose : HaveRisen seen old → HaveRisen (terms_of history moved d n roomy) roomy
+    mid_rose rose = reached_risen seen old counters roomy counters'' None up.reached rose
 
-      -- and an overflow raises the page counter
-      pub mid_later : (raised : ℕ) → outcome ≡ page_up raised →
-          ((next : ℕ) → foreseen ≡ page_up next → (counter0.line ≡ 127) × (counter0.page < limit) × (next ≡ counter0.page + 1)) →
-          mid.engine.evidence ≡ None → block.page < raised
-      mid_later raised is page_next quiet =
-          let facts = page_next raised (up_foreseen quiet ∙ is) in
-          let same : counter0.page ≡ block.page = ap (λ (c : Counter). c.page) had.counter_is in
-          omega (arith, facts.2, same)
+    pub mid_inside : line < line_count roomy.engine.geometry
+    mid_inside = subst (λ (l : GeometryView). line < line_count l) (sym up.reached.node.step.geometry) had.inside
 
-      pub mid_rooms : (64 ≤ mid.pads.room) × (64 ≤ mid.engine.room)
-      mid_rooms = (up_room.0, up_room.1)
+    -- each line of the page has the counter that its block said
+    pub mid_counters : (old.engine.evidence ≡ None → (at : ℕ) → HasCounter old.pads.used at (counter_in old.pads.used at)) → roomy.engine.evidence ≡ None →
+        (at : ℕ) → page_of at ≡ page_of line → HasCounter roomy.pads.used at (counter_of (place_of at) block)
+    mid_counters started quiet at of_page =
+        let was_quiet = got_quiet (mid_quiet quiet) in
+        let said : counter_in old.pads.used at ≡ counter_of (place_of at) block =
+        say was_quiet (page_of line) page_within at of_page ∙ ap (counter_of (place_of at)) (sym (block_at (mid_quiet quiet))) in
+        subst (λ (u : List (ℕ × Counter)). HasCounter u at (counter_of (place_of at) block)) (sym up.reached.node.used)
+        (subst (HasCounter old.pads.used at) said (started was_quiet at))
 
-      -- It is spent after all, which comes only where there is evidence.
-      pub spent_after : (bytes : List ℕ) → HaveRisen terms old → outcome ≡ used_up → foreseen ≢ used_up →
-          IsWrite terms limit line bytes old counters mid counters'' (Some (Spent page))
-      spent_after bytes rose spent not_foreseen =
-          spent_early mid counters'' page up_reached limit line bytes rose
-          (λ quiet. absurd (not_foreseen (up_foreseen quiet ∙ spent))) (inr (up_room.0, up_room.2)) had.page_is
-          (λ quiet. absurd (not_foreseen (up_foreseen quiet ∙ spent))) (λ quiet last. absurd (not_foreseen (up_foreseen quiet ∙ spent))) up_come
+    -- and an overflow raises the page counter
+    pub mid_later : (raised : ℕ) → outcome ≡ page_up raised →
+        ((next : ℕ) → foreseen ≡ page_up next → (counter0.line ≡ 127) × (counter0.page < limit) × (next ≡ counter0.page + 1)) →
+        roomy.engine.evidence ≡ None → block.page < raised
+    mid_later raised is page_next quiet =
+        let facts = page_next raised (up_foreseen quiet ∙ is) in
+        let same : counter0.page ≡ block.page = ap (λ (c : Counter). c.page) had.counter_is in
+        omega (arith, facts.2, same)
 
-      module _ (started : old.engine.evidence ≡ None → (at : ℕ) → HasCounter old.pads.used at (counter_in old.pads.used at))
-          (path : got.engine.evidence ≡ None → ¬ Contains (cached_pages counters) page →
-          PathWasRead counters.tree old.engine.made 0 page (history old.bus) (history got.bus)) (bytes : List ℕ) where
-        path_on : mid.engine.evidence ≡ None → ¬ Contains (cached_pages counters) (page_of line) →
-            PathWasRead counters.tree old.engine.made 0 (page_of line) (history old.bus) (history mid.bus)
-        path_on quiet missed =
-            path_more counters.tree old.engine.made (page_of line) (history old.bus) (history got.bus) (history mid.bus)
-            (λ place. omega (arith, ap (λ (o : OutsideView B T). (history o.bus).reads place) up.taken, up.reached.node.step.reads place))
-            (subst (λ (p : ℕ). ¬ Contains (cached_pages counters) p → PathWasRead counters.tree old.engine.made 0 p (history old.bus) (history got.bus)) had.page_is
-            (path (mid_quiet quiet)) missed)
+    pub mid_rooms : (64 ≤ roomy.pads.room) × (64 ≤ roomy.engine.room)
+    mid_rooms = (up_room.0, up_room.1)
 
-        -- A line counter went up
+    -- It is spent after all, which comes only where there is evidence.
+    pub spent_after : (bytes : List ℕ) → HaveRisen seen old → outcome ≡ used_up → foreseen ≢ used_up →
+        IsWrite seen limit line bytes old counters roomy counters'' (Some (Spent page))
+    spent_after bytes rose spent not_foreseen =
+        spent_early history moved d n old counters roomy counters'' page up.reached limit line bytes rose
+        (λ quiet. absurd (not_foreseen (up_foreseen quiet ∙ spent))) (inr (up_room.0, up_room.2)) had.page_is
+        (λ quiet. absurd (not_foreseen (up_foreseen quiet ∙ spent))) (λ quiet last. absurd (not_foreseen (up_foreseen quiet ∙ spent))) up.come
 
-        module _ (counter : Counter) (is : outcome ≡ line_up counter) (some : 0 < counter.line)
-            (line_next : (next : Counter) → foreseen ≡ line_up next → (counter0.line < 127) × (next ≡ next_counter counter0)) (new : OutsideView B T)
-            (used : new.pads ≡ after_encrypt line counter mid.pads)
-            (made : new.engine ≡ after_make (line_message line counter (cipher_of mid.pads.key line counter bytes)) mid.engine)
-            (undone : cipher_of mid.pads.key line counter (cipher_of mid.pads.key line counter bytes) ≡ bytes)
-            (moves : StepMoves (history mid.bus) mid.engine (history new.bus) new.engine)
-            (honest : (used more : List (ℕ × Counter)) →
-            IsAccounted (tags_of d n mid.engine) used mid.engine.made (history mid.bus) None mid.engine.evidence →
-            IsAccounted (tags_of d n mid.engine) more new.engine.made (history new.bus) None new.engine.evidence) where
-          next_is : mid.engine.evidence ≡ None → ((counter_in old.pads.used line).line < 127) × (counter ≡ next_counter (counter_in old.pads.used line))
-          next_is quiet =
-              subst (λ (c : Counter). (c.line < 127) × (counter ≡ next_counter c)) (sym (counter_here (mid_quiet quiet)))
-              (line_next counter (up_foreseen quiet ∙ is))
+    module _ (started : old.engine.evidence ≡ None → (at : ℕ) → HasCounter old.pads.used at (counter_in old.pads.used at)) (bytes : List ℕ) where
+      path_on : roomy.engine.evidence ≡ None → ¬ Contains (cached_pages counters) (page_of line) →
+          PathWasRead counters.tree old.engine.made 0 (page_of line) (history old.bus) (history roomy.bus)
+      path_on quiet missed =
+          path_more counters.tree old.engine.made (page_of line) (history old.bus) (history got.bus) (history roomy.bus)
+          (λ place. omega (arith, ap (λ (o : OutsideView B T). (history o.bus).reads place) up.taken))
+          (had.got_is.path refl (mid_quiet quiet) missed)
 
-          new_quiet : new.engine.evidence ≡ None → mid.engine.evidence ≡ None
-          new_quiet quiet = was_none mid.engine.evidence new.engine.evidence moves.evidence quiet
+      -- A line counter went up
 
-          had_it : mid.engine.evidence ≡ None → HasCounter mid.pads.used line (counter_in old.pads.used line) × IsBefore (counter_in old.pads.used line) counter
-          had_it quiet = (
-            subst (λ (u : List (ℕ × Counter)). HasCounter u line (counter_in old.pads.used line)) (sym up_reached.node.used)
-                (started (got_quiet (mid_quiet quiet)) line),
-            subst (IsBefore (counter_in old.pads.used line)) (sym (next_is quiet).1) (next_after (counter_in old.pads.used line)),
-          )
+      module _ (counter : Counter) (is : outcome ≡ line_up counter) (some : 0 < counter.line)
+          (line_next : (next : Counter) → foreseen ≡ line_up next → (counter0.line < 127) × (next ≡ next_counter counter0)) (new : OutsideView B T)
+          (used : new.pads ≡ after_encrypt line counter roomy.pads)
+          (made : new.engine ≡ after_make (line_message line counter (cipher_of roomy.pads.key line counter bytes)) roomy.engine)
+          (undone : cipher_of roomy.pads.key line counter (cipher_of roomy.pads.key line counter bytes) ≡ bytes)
+          (moves : StepMoves (history roomy.bus) roomy.engine (history new.bus) new.engine)
+          (honest : (used more : List (ℕ × Counter)) →
+          IsAccounted (tags_of d n roomy.engine) used roomy.engine.made (history roomy.bus) None roomy.engine.evidence →
+          IsAccounted (tags_of d n roomy.engine) more new.engine.made (history new.bus) None new.engine.evidence) where
+        next_is : roomy.engine.evidence ≡ None → ((counter_in old.pads.used line).line < 127) × (counter ≡ next_counter (counter_in old.pads.used line))
+        next_is quiet =
+            subst (λ (c : Counter). (c.line < 127) × (counter ≡ next_counter c)) (sym (counter_here (mid_quiet quiet)))
+            (line_next counter (up_foreseen quiet ∙ is))
 
-          one_line : line ∷ [] ≡ lines_encrypted counter line
-          one_line = sym (encrypted_line counter line (λ none. omega (arith, none, some)))
+        new_quiet : new.engine.evidence ≡ None → roomy.engine.evidence ≡ None
+        new_quiet quiet = was_none roomy.engine.evidence new.engine.evidence moves.evidence quiet
 
-          line_stops : (stop : Option MemStop) → ((place : Place) → stop ≢ Some (Tampered place)) → (lasting_stop stop ≡ None → stop ≡ None) →
-              HaveRisen terms old →
-              AreSealed (terms_of history moved d n mid) (record { line = line; bytes = bytes; counter = counter }) mid (line ∷ []) new stop →
-              IsWrite terms limit line bytes old counters new counters'' stop
-          line_stops stop untampered going rose sealed =
-              let write : LineWrite = record { line = line; bytes = bytes; counter = counter } in
-              let in_terms : AreSealed terms write mid (line ∷ []) new stop =
-              subst (λ (t : MemoryTerms B). AreSealed t write mid (line ∷ []) new stop) mid_terms sealed in
-              let in_order : AreSealedInOrder terms write mid (lines_encrypted counter line) new stop =
-              subst (λ (xs : List ℕ). AreSealedInOrder terms write mid xs new stop) one_line
-              (all_in_order terms write mid (line ∷ []) new stop in_terms (λ quiet. own_reread line mid.pads.used (history mid.bus) (history new.bus)) untampered) in
-              late_write terms old counters mid counters'' new up_reached line bytes counter stop in_order moved_on limit
-              (λ quiet. (next_is (new_quiet quiet)).1) (λ quiet. line_not_last limit (counter_in old.pads.used line) (next_is (new_quiet quiet)).0)
-              (λ none quiet.
-              say_line say new counters'' line place limit counter (got_quiet (mid_quiet (new_quiet quiet))) page_within
-              (subst IsCounterBlock (block_at (mid_quiet (new_quiet quiet))) had.is_block) had.place_is
-              (up_bumped (new_quiet quiet) ∙ is) (next_is (new_quiet quiet)).1 (next_is (new_quiet quiet)).0
-              (late_counters terms old counters mid counters'' new up_reached line bytes counter stop in_order (page_of line) ∙ up_now (new_quiet quiet))
-              (λ other differs. late_counters terms old counters mid counters'' new up_reached line bytes counter stop in_order other ∙ up_others (new_quiet quiet) other differs)
-              (in_terms.entries ∙ ap (λ (u : List (ℕ × Counter)). u ++ (line, counter) ∷ []) up_reached.node.used) quiet)
-              up_room.0 up_room.2 path_on (λ place is. absurd (untampered place is)) going up_come
+        had_it : roomy.engine.evidence ≡ None → HasCounter roomy.pads.used line (counter_in old.pads.used line) × IsBefore (counter_in old.pads.used line) counter
+        had_it quiet = (
+          subst (λ (u : List (ℕ × Counter)). HasCounter u line (counter_in old.pads.used line)) (sym up.reached.node.used)
+              (started (got_quiet (mid_quiet quiet)) line),
+          subst (IsBefore (counter_in old.pads.used line)) (sym (next_is quiet).1) (next_after (counter_in old.pads.used line)),
+        )
 
-          pub line_written : HaveRisen terms old → MakesAccesses moved (tags_of d n mid.engine) mid.bus mid.engine new.bus new.engine None →
-              history new.bus ≡ after_write (line_place line) (sealed_line (tags_of d n mid.engine) line counter (cipher_of mid.pads.key line counter bytes)) (history mid.bus) →
-              IsWrite terms limit line bytes old counters new counters'' None
-          line_written rose trace wrote =
-              line_stops None (λ place is. cc) (λ going. refl) rose
-              (one_sealed (terms_of history moved d n mid) (record { line = line; bytes = bytes; counter = counter }) mid new line (counter_in old.pads.used line) bytes
-              mid_kept (mid_rose rose) mid_last mid_inside had_it (inl (refl, refl)) used made undone moves honest trace wrote)
+        one_line : line ∷ [] ≡ lines_encrypted counter line
+        one_line = sym (encrypted_line counter line (λ none. omega (arith, none, some)))
 
-          pub line_unwritten : HaveRisen terms old → MakesAccesses moved (tags_of d n mid.engine) mid.bus mid.engine new.bus new.engine (Some NoMemory) →
-              history new.bus ≡ history mid.bus → IsWrite terms limit line bytes old counters new counters'' (Some NoMemory)
-          line_unwritten rose trace same =
-              line_stops (Some NoMemory) (λ place is. cc) (λ going. absurd (cc)) rose
-              (one_unwritten (terms_of history moved d n mid) (record { line = line; bytes = bytes; counter = counter }) mid new line (counter_in old.pads.used line) bytes
-              mid_kept (mid_rose rose) mid_last mid_inside had_it (inl (refl, refl)) used made undone moves honest trace same)
+        line_stops : (stop : Option MemStop) → ((place : Place) → stop ≢ Some (Tampered place)) → (lasting_stop stop ≡ None → stop ≡ None) →
+            HaveRisen seen old →
+            AreSealed (terms_of history moved d n roomy) (record { line = line; bytes = bytes; counter = counter }) roomy (line ∷ []) new stop →
+            IsWrite seen limit line bytes old counters new counters'' stop
+        line_stops stop untampered going rose sealed =
+            let write : LineWrite = record { line = line; bytes = bytes; counter = counter } in
+            let in_terms : AreSealed seen write roomy (line ∷ []) new stop =
+            subst (λ (t : MemoryTerms B). AreSealed t write roomy (line ∷ []) new stop) mid_terms sealed in
+            let in_order : AreSealedInOrder seen write roomy (lines_encrypted counter line) new stop =
+            subst (λ (xs : List ℕ). AreSealedInOrder seen write roomy xs new stop) one_line
+            (all_in_order seen write roomy (line ∷ []) new stop in_terms (λ quiet. own_reread line roomy.pads.used (history roomy.bus) (history new.bus)) untampered) in
+            late_write seen old counters roomy counters'' new up.reached line bytes counter stop in_order moved_on limit
+            (λ quiet. (next_is (new_quiet quiet)).1) (λ quiet. line_not_last limit (counter_in old.pads.used line) (next_is (new_quiet quiet)).0)
+            (λ none quiet.
+            say_line history moved d n old counters say new counters'' line place limit counter (got_quiet (mid_quiet (new_quiet quiet))) page_within
+            (subst IsCounterBlock (block_at (mid_quiet (new_quiet quiet))) had.is_block) had.place_is
+            (up_bumped (new_quiet quiet) ∙ is) (next_is (new_quiet quiet)).1 (next_is (new_quiet quiet)).0
+            (late_counters seen old counters roomy counters'' new up.reached line bytes counter stop in_order (page_of line) ∙ up_now (new_quiet quiet))
+            (λ other differs. late_counters seen old counters roomy counters'' new up.reached line bytes counter stop in_order other ∙ up_others (new_quiet quiet) other differs)
+            (in_terms.entries ∙ ap (λ (u : List (ℕ × Counter)). u ++ (line, counter) ∷ []) up.reached.node.used) quiet)
+            up_room.0 up_room.2 path_on (λ place is. absurd (untampered place is)) going up.come
 
-        -- The page counter went up
+        pub line_written : HaveRisen seen old → MakesAccesses moved (tags_of d n roomy.engine) roomy.bus roomy.engine new.bus new.engine None →
+            history new.bus ≡ after_write (line_place line) (sealed_line (tags_of d n roomy.engine) line counter (cipher_of roomy.pads.key line counter bytes)) (history roomy.bus) →
+            IsWrite seen limit line bytes old counters new counters'' None
+        line_written rose trace wrote =
+            line_stops None (λ place is. cc) (λ going. refl) rose
+            (one_sealed (terms_of history moved d n roomy) (record { line = line; bytes = bytes; counter = counter }) roomy new line (counter_in old.pads.used line) bytes
+            mid_kept (mid_rose rose) mid_last mid_inside had_it (inl (refl, refl)) used made undone moves honest trace wrote)
 
-        module _ (raised : ℕ) (is : outcome ≡ page_up raised)
-            (page_next : (next : ℕ) → foreseen ≡ page_up next → (counter0.line ≡ 127) × (counter0.page < limit) × (next ≡ counter0.page + 1))
-            (new : OutsideView B T) (stop : Option MemStop)
-            (sealed : AreSealedInOrder (terms_of history moved d n mid) (record { line = line; bytes = bytes; counter = record { page = raised; line = 0 } }) mid
-            (page_lines (page_of line)) new stop) where
-          abbrev paged : Counter
-          paged = record { page = raised; line = 0 }
+        pub line_unwritten : HaveRisen seen old → MakesAccesses moved (tags_of d n roomy.engine) roomy.bus roomy.engine new.bus new.engine (Some NoMemory) →
+            history new.bus ≡ history roomy.bus → IsWrite seen limit line bytes old counters new counters'' (Some NoMemory)
+        line_unwritten rose trace same =
+            line_stops (Some NoMemory) (λ place is. cc) (λ going. absurd (cc)) rose
+            (one_unwritten (terms_of history moved d n roomy) (record { line = line; bytes = bytes; counter = counter }) roomy new line (counter_in old.pads.used line) bytes
+            mid_kept (mid_rose rose) mid_last mid_inside had_it (inl (refl, refl)) used made undone moves honest trace same)
 
-          page_facts : mid.engine.evidence ≡ None → ((counter_in old.pads.used line).line ≡ 127) × ((counter_in old.pads.used line).page < limit)
-              × (paged ≡ next_counter (counter_in old.pads.used line))
-          page_facts quiet =
-              let facts = subst (λ (c : Counter). (c.line ≡ 127) × (c.page < limit) × (raised ≡ c.page + 1)) (sym (counter_here (mid_quiet quiet)))
-              (page_next raised (up_foreseen quiet ∙ is)) in (
-                facts.0,
-                facts.1,
-                ap (λ (p : ℕ). let c : Counter = record { page = p; line = 0 } in c) facts.2
-                    ∙ sym (next_page (counter_in old.pads.used line) facts.0),
-              )
+      -- The page counter went up
 
-          pub page_overflows : new.engine.evidence ≡ None → (next_counter (counter_in old.pads.used line)).line ≡ 0
-          page_overflows quiet =
-              ap (λ (c : Counter). c.line) (next_page (counter_in old.pads.used line)
-              (page_facts (was_none mid.engine.evidence new.engine.evidence sealed.sealed.step.evidence quiet)).0)
+      module _ (raised : ℕ) (is : outcome ≡ page_up raised)
+          (page_next : (next : ℕ) → foreseen ≡ page_up next → (counter0.line ≡ 127) × (counter0.page < limit) × (next ≡ counter0.page + 1))
+          (new : OutsideView B T) (stop : Option MemStop)
+          (sealed : AreSealedInOrder (terms_of history moved d n roomy) (record { line = line; bytes = bytes; counter = record { page = raised; line = 0 } }) roomy
+          (page_lines (page_of line)) new stop) where
+        abbrev paged : Counter
+        paged = record { page = raised; line = 0 }
 
-          page_terms : terms_of history moved d n mid ≡ terms
-          page_terms = same_terms history moved d n old mid up_reached.node.step.tagger up_reached.node.step.geometry
+        page_facts : roomy.engine.evidence ≡ None → ((counter_in old.pads.used line).line ≡ 127) × ((counter_in old.pads.used line).page < limit)
+            × (paged ≡ next_counter (counter_in old.pads.used line))
+        page_facts quiet =
+            let facts = subst (λ (c : Counter). (c.line ≡ 127) × (c.page < limit) × (raised ≡ c.page + 1)) (sym (counter_here (mid_quiet quiet)))
+            (page_next raised (up_foreseen quiet ∙ is)) in (
+              facts.0,
+              facts.1,
+              ap (λ (p : ℕ). let c : Counter = record { page = p; line = 0 } in c) facts.2
+                  ∙ sym (next_page (counter_in old.pads.used line) facts.0),
+            )
 
-          page_quiet : new.engine.evidence ≡ None → mid.engine.evidence ≡ None
-          page_quiet quiet = was_none mid.engine.evidence new.engine.evidence sealed.sealed.step.evidence quiet
+        pub page_overflows : new.engine.evidence ≡ None → (next_counter (counter_in old.pads.used line)).line ≡ 0
+        page_overflows quiet =
+            ap (λ (c : Counter). c.line) (next_page (counter_in old.pads.used line)
+            (page_facts (was_none roomy.engine.evidence new.engine.evidence sealed.sealed.step.evidence quiet)).0)
 
-          page_order : AreSealedInOrder terms (record { line = line; bytes = bytes; counter = paged }) mid (lines_encrypted paged line) new stop
-          page_order =
-              subst (λ (t : MemoryTerms B). AreSealedInOrder t (record { line = line; bytes = bytes; counter = paged }) mid (lines_encrypted paged line) new stop) page_terms
-              (subst (λ (xs : List ℕ). AreSealedInOrder (terms_of history moved d n mid) (record { line = line; bytes = bytes; counter = paged }) mid xs new stop)
-              (sym (encrypted_page paged line refl)) sealed)
+        page_terms : terms_of history moved d n roomy ≡ seen
+        page_terms = same_terms history moved d n old roomy up.reached.node.step.tagger up.reached.node.step.geometry
 
-          page_say : stop ≡ None → CountersSay terms new counters''
-          page_say none quiet =
-              let every : take page_order.count (lines_encrypted paged line) ≡ lines_encrypted paged line =
-              take_all page_order.count (lines_encrypted paged line) (omega (arith, page_order.whole none)) in
-              say_page say new counters'' line place limit raised (got_quiet (mid_quiet (page_quiet quiet))) (up_bumped (page_quiet quiet) ∙ is)
-              (late_counters terms old counters mid counters'' new up_reached line bytes paged stop page_order (page_of line) ∙ up_now (page_quiet quiet))
-              (λ other differs. late_counters terms old counters mid counters'' new up_reached line bytes paged stop page_order other ∙ up_others (page_quiet quiet) other differs)
-              (page_order.sealed.entries ∙ ap (λ (xs : List ℕ). mid.pads.used ++ map (λ at. (at, paged)) xs) (every ∙ encrypted_page paged line refl)
-              ∙ ap (λ (u : List (ℕ × Counter)). u ++ map (λ at. (at, paged)) (page_lines (page_of line))) up_reached.node.used) quiet
+        page_quiet : new.engine.evidence ≡ None → roomy.engine.evidence ≡ None
+        page_quiet quiet = was_none roomy.engine.evidence new.engine.evidence sealed.sealed.step.evidence quiet
 
-          pub page_written : IsWrite terms limit line bytes old counters new counters'' stop
-          page_written =
-              late_write terms old counters mid counters'' new up_reached line bytes paged stop page_order moved_on limit
-              (λ quiet. (page_facts (page_quiet quiet)).2)
-              (λ quiet. page_not_last limit (counter_in old.pads.used line) (page_facts (page_quiet quiet)).1) page_say
-              up_room.0 up_room.2 path_on (λ place is. refl) (going_on stop page_order.sealed.unspent) up_come
+        page_order : AreSealedInOrder seen (record { line = line; bytes = bytes; counter = paged }) roomy (lines_encrypted paged line) new stop
+        page_order =
+            subst (λ (t : MemoryTerms B). AreSealedInOrder t (record { line = line; bytes = bytes; counter = paged }) roomy (lines_encrypted paged line) new stop) page_terms
+            (subst (λ (xs : List ℕ). AreSealedInOrder (terms_of history moved d n roomy) (record { line = line; bytes = bytes; counter = paged }) roomy xs new stop)
+            (sym (encrypted_page paged line refl)) sealed)
+
+        page_say : stop ≡ None → CountersSay seen new counters''
+        page_say none quiet =
+            let every : take page_order.count (lines_encrypted paged line) ≡ lines_encrypted paged line =
+            take_all page_order.count (lines_encrypted paged line) (omega (arith, page_order.whole none)) in
+            say_page history moved d n old counters say new counters'' line place limit raised (got_quiet (mid_quiet (page_quiet quiet))) (up_bumped (page_quiet quiet) ∙ is)
+            (late_counters seen old counters roomy counters'' new up.reached line bytes paged stop page_order (page_of line) ∙ up_now (page_quiet quiet))
+            (λ other differs. late_counters seen old counters roomy counters'' new up.reached line bytes paged stop page_order other ∙ up_others (page_quiet quiet) other differs)
+            (page_order.sealed.entries ∙ ap (λ (xs : List ℕ). roomy.pads.used ++ map (λ at. (at, paged)) xs) (every ∙ encrypted_page paged line refl)
+            ∙ ap (λ (u : List (ℕ × Counter)). u ++ map (λ at. (at, paged)) (page_lines (page_of line))) up.reached.node.used) quiet
+
+        pub page_written : IsWrite seen limit line bytes old counters new counters'' stop
+        page_written =
+            late_write seen old counters roomy counters'' new up.reached line bytes paged stop page_order moved_on limit
+            (λ quiet. (page_facts (page_quiet quiet)).2)
+            (λ quiet. page_not_last limit (counter_in old.pads.used line) (page_facts (page_quiet quiet)).1) page_say
+            up_room.0 up_room.2 path_on (λ place is. refl) (unspent_going stop page_order.sealed.unspent) up.come

@@ -1,6 +1,5 @@
 -- What a step over the nodes leaves of the memory outside.
-use Rattle.std.proofs.Common.{◌≡◌, ◌≢◌, ◌⊎◌, inl, inr, ℕ, List, [], ◌∷◌, ◌++◌, length, Option, Some, None, Contains, Result, Ok, Err, IsOk, OnOk, OnErr, refl, ap, sym, ◌∙◌, subst, append_assoc}
-use Rattle.std.specs.Result.{result_err}
+use Rattle.std.proofs.Common.{◌≡◌, ◌≢◌, ◌⊎◌, inl, inr, ℕ, List, [], ◌∷◌, ◌++◌, Option, Some, None, Contains, Result, Ok, Err, OnErr, refl, ap, sym, ◌∙◌, subst, append_assoc}
 use Rattle.std.proofs.lemmas.List.{append-nil}
 use Rattle.std.proofs.lemmas.List.Elements.{Contains-append_left}
 use Rattle.sec_base.specs.declared.counter.Counter.{Counter}
@@ -16,10 +15,8 @@ use Rattle.sec_base.proofs.LastMessages.{last_of_other}
 use Rattle.bus_model.specs.Access.{Access}
 use Rattle.bus_model.specs.BusHistory.{BusHistory}
 use Rattle.tag_engine.specs.TagEngine.{TagEngineView, tags_of}
-use Rattle.checked_bus.specs.Accesses.{WritesMessages}
 use Rattle.checked_bus.specs.Makes.{MakesAccesses}
 use Rattle.checked_bus.specs.Steps.{Moves as StepMoves, SameLines}
-use Rattle.checked_bus.specs.Steps.{unwritten_in}
 use Rattle.checked_bus.proofs.Steps.{same_pairs}
 use Rattle.bonsai_tree.specs.Tree.{IsTree, NodesAreMade, NodesHoldLast, TreeView}
 use Rattle.counter_cache.specs.Counters.{CountersView, HoldsCounters}
@@ -29,29 +26,13 @@ use Rattle.page_reencrypt.specs.Outside.{AreConsistent, CountersFit, HaveLast, H
 use Rattle.page_reencrypt.proofs.Nodes.{line_before}
 use Rattle.page_reencrypt.proofs.Unmade.{same_tags}
 
-pub ok_map : {A E P Q : Type 0} (result : Result A E) → (P → Q) → OnOk result P → OnOk result Q
-ok_map (Ok value) follows done = follows done
-ok_map (Err error) follows done = tt
-
 pub err_map : {A E P Q : Type 0} (result : Result A E) → (P → Q) → OnErr result P → OnErr result Q
 err_map (Ok value) follows refused = tt
 err_map (Err error) follows refused = follows refused
 
-pub ok_gives : {A E P : Type 0} (result : Result A E) → IsOk result → OnOk result P → P
-ok_gives (Ok value) ok holds = holds
-ok_gives (Err error) ok holds = absurd (cc)
-
--- a call that is answered was not refused for want of memory
-pub ok_had_memory : {A P : Type 0} (result : Result A MemStop) → (result ≢ Err NoMemory → P) → OnOk result P
-ok_had_memory (Ok value) holds = holds (λ (is : Ok value ≡ Err NoMemory). cc)
-ok_had_memory (Err stop) holds = tt
-
 pub shows_by : {A P : Type 0} (found : Option A) → (found ≢ None → P) → (found ≡ None) ⊎ P
 shows_by None shown = inl refl
 shows_by (Some evidence) shown = inr (shown (λ none. cc))
-
-pub not_refused : {A : Type 0} (result : Result A MemStop) → result_err result ≢ Some NoMemory → result ≢ Err NoMemory
-not_refused result goes_on is = goes_on (ap result_err is)
 
 -- messages of nodes are the last of no line
 pub last_data-nodes : (made more : List Message) (line : ℕ) → data_pairs more ≡ [] → last_data line (made ++ more) ≡ last_data line made
@@ -119,11 +100,10 @@ module _ {B T : Type 0} (history : B → BusHistory) (moved : B → List Access 
       MakesAccesses moved terms.tag_of old.bus old.engine bus engine stop →
       StepMoves (history old.bus) old.engine (history bus) engine →
       SameLines (history old.bus) old.engine.made (history bus) engine.made →
-      ((more : List Message) → engine.made ≡ old.engine.made ++ more → WritesMessages (history old.bus) (history bus) (length more) (unwritten_in stop)) →
       (NodesAreMade tree.geometry old.engine.made (history old.bus).written → NodesAreMade tree.geometry engine.made (history bus).written) →
       (NodesHoldLast tree.geometry old.engine.made (history old.bus).written → stop ≢ Some NoMemory → NodesHoldLast tree.geometry engine.made (history bus).written) →
       IsNodeStep terms old new stop
-  node_step tree stop geometry kept last nodes trace moves lines writes made_blocks last_blocks = record {
+  node_step tree stop geometry kept last nodes trace moves lines made_blocks last_blocks = record {
     trace = trace;
     step = record {
       bus_geometry = moves.bus_geometry;
@@ -140,7 +120,6 @@ module _ {B T : Type 0} (history : B → BusHistory) (moved : B → List Access 
     lines = lines;
     used = refl;
     key = refl;
-    writes = writes lines.more lines.made_more;
     consistent = nodes_consistent terms.tag_of (history old.bus) (history bus) old.engine.made engine.made lines old.engine.geometry old.pads.used kept moves.bus_geometry
         (subst (λ (l : GeometryView). NodesAreMade l engine.made (history bus).written) geometry
         (made_blocks (subst (λ (l : GeometryView). NodesAreMade l old.engine.made (history old.bus).written) (sym geometry) kept.nodes)));

@@ -1,5 +1,5 @@
 -- What a read of a line makes of the lines outside.
-use Rattle.std.proofs.Common.{◌≡◌, ◌≢◌, inl, inr, ℕ, ◌<◌, ◌≤◌, List, [], ◌++◌, Option, Some, None, Contains, Result, Err, IfOk, OnOk, refl, ap, sym, ◌∙◌, subst, arith}
+use Rattle.std.proofs.Common.{◌≡◌, ◌≢◌, inl, inr, ℕ, ◌<◌, List, [], ◌++◌, Option, Some, None, Contains, Result, Err, IfOk, OnOk, refl, ap, sym, ◌∙◌, subst, arith}
 use Rattle.std.specs.Option.{option_or}
 use Rattle.std.specs.Result.{result_err}
 use Rattle.std.proofs.lemmas.List.{append-nil}
@@ -19,7 +19,6 @@ use Rattle.pad_stream.specs.PadEngine.{PadEngineView}
 use Rattle.pad_stream.specs.Pads.{AreRising}
 use Rattle.checked_bus.specs.Makes.{MakesAccesses}
 use Rattle.checked_bus.specs.Steps.{IsAccounted}
-use Rattle.checked_bus.specs.Steps.{unwritten_in}
 use Rattle.split_counter.specs.CounterBlock.{counter_of, place_of}
 use Rattle.counter_cache.specs.Counters.{CountersView, cached_pages}
 use Rattle.page_reencrypt.specs.Contents.{ArePaged, AreUnskipped, AreWithin, IsSpent, bytes_of, contents_of, counter_in, line_bytes}
@@ -29,7 +28,7 @@ use Rattle.page_reencrypt.specs.Outside.{CountersSay, IsLineRead, MemoryTerms, O
 use Rattle.page_reencrypt.specs.SealedLines.{AreOfPages, AreProtected, CountersRise, IsLineOf, SealedLinesView, contents}
 use Rattle.page_reencrypt.specs.Stops.{lasting_stop}
 use Rattle.page_reencrypt.specs.UnderCounters.{ReadUnderCounters}
-use Rattle.page_reencrypt.proofs.Kept.{none_before, protected_after, stop_accesses, stop_accounted, stop_lasts, stop_memory, stop_spent, stop_unwritten}
+use Rattle.page_reencrypt.proofs.Kept.{none_before, protected_after, stop_accesses, stop_accounted, stop_lasts, stop_memory, stop_spent}
 use Rattle.page_reencrypt.proofs.Moves.{moves_not}
 use Rattle.page_reencrypt.proofs.NodeSteps.{last_data-nodes}
 use Rattle.page_reencrypt.proofs.Reaching.{came_not, few_not}
@@ -157,9 +156,6 @@ module _ {B T : Type 0} (d n : T → List ℕ → List ℕ) (history : B → Bus
       entries = [];
       used_more = same_used ∙ sym (append-nil m.pads.used);
       entries_allowed = λ other counter listed. absurd (omega (arith, listed.1));
-      accesses =
-          let more = subst (λ (s : Option MemStop). unwritten_in (result_err result) ≤ unwritten_in s) (sym stops) (stop_unwritten m.stopped going (result_err result)) in
-          record { writes = r.writes.writes; counted = r.writes.counted; at_most = r.writes.at_most; at_least = omega (arith, more, r.writes.at_least) };
       idle = λ stop is. absurd (cc);
       accounted = λ was.
           let before = none_before m.stopped going (tags_of d n m.engine) m.pads.used m.engine.made (history m.bus) m.engine.evidence was in

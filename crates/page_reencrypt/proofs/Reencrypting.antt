@@ -1,5 +1,5 @@
 -- How lines are encrypted anew: what a line holds is read, it is sealed, and so on line by line.
-use Rattle.std.proofs.Common.{◌≡◌, ◌≢◌, ◌⊎◌, inl, inr, ℕ, zero, suc, ◌+◌, ◌*◌, ◌<◌, ◌≤◌, List, [], ◌∷◌, ◌++◌, length, map, take, Contains, append_assoc, Option, Some, None, Result, Err, refl, ap, sym, ◌∙◌, subst, arith, length-append}
+use Rattle.std.proofs.Common.{◌≡◌, ◌≢◌, ◌⊎◌, inl, inr, ℕ, zero, suc, ◌+◌, ◌*◌, ◌<◌, ◌≤◌, List, [], ◌∷◌, ◌++◌, length, map, take, Contains, append_assoc, Option, Some, None, Result, Ok, Err, refl, ap, sym, ◌∙◌, subst, arith, length-append}
 use Rattle.std.specs.List.{range_with_len, slice_get}
 use Rattle.std.specs.Result.{result_err}
 use Rattle.std.proofs.lemmas.Bool.{cases_eq}
@@ -12,7 +12,7 @@ use Rattle.sec_base.specs.declared.evidence.Evidence.{Evidence}
 use Rattle.sec_base.specs.declared.evidence.Evidence.TheVariants.{Forgery}
 use Rattle.sec_base.specs.declared.message.Message.TheVariants.{Line}
 use Rattle.sec_base.specs.declared.place.Place.{Place}
-use Rattle.sec_base.specs.declared.place.Place.TheVariants.{Line as line_place, Node as node_place}
+use Rattle.sec_base.specs.declared.place.Place.TheVariants.{Line as line_place}
 use Rattle.sec_base.specs.declared.stop.MemStop.{MemStop}
 use Rattle.sec_base.specs.declared.stop.MemStop.TheVariants.{Tampered, Spent, NoMemory}
 use Rattle.sec_base.specs.Count.{Rose}
@@ -25,16 +25,15 @@ use Rattle.tag_engine.specs.TagEngine.{after_make, tags_of}
 use Rattle.pad_stream.specs.Pad.{cipher_of}
 use Rattle.pad_stream.specs.PadEngine.{PadEngineView, after_encrypt}
 use Rattle.pad_stream.specs.Pads.{IsBefore}
-use Rattle.checked_bus.specs.Accesses.{AreCounted}
 use Rattle.checked_bus.specs.Makes.{MakesAccesses}
 use Rattle.checked_bus.specs.SealedLine.{sealed_line}
 use Rattle.checked_bus.specs.Steps.{IsAccounted, Moves as StepMoves}
 use Rattle.checked_bus.proofs.Evidences.{by_evidence}
-use Rattle.checked_bus.proofs.Steps.{counted_not, moves_not as step_not}
+use Rattle.checked_bus.proofs.Steps.{moves_not as step_not}
 use Rattle.checked_bus.proofs.TaggedWrites.{wrote_once}
 use Rattle.split_counter.specs.CounterBlock.{CounterBlockView, counter_of, place_of}
 use Rattle.page_reencrypt.specs.Contents.{line_bytes, page_lines}
-use Rattle.page_reencrypt.specs.Outside.{Accepts, AreAccounted, AreConsistent, AreSealed, AreSealedInOrder, HasCounter, HaveLast, HaveRisen, IsAcceptedBeside, LineWrite, MemoryTerms, OutsideView, ShowsLies, terms_of}
+use Rattle.page_reencrypt.specs.Outside.{Accepts, AreConsistent, AreSealed, AreSealedInOrder, HasCounter, HaveLast, HaveRisen, IsAcceptedBeside, IsReadAt, LineWrite, MemoryTerms, OutsideView, terms_of}
 use Rattle.page_reencrypt.specs.SealedLines.{AreReread}
 use Rattle.page_reencrypt.proofs.Consistency.{last_pair-other}
 use Rattle.page_reencrypt.proofs.MadeAccesses.{made_not}
@@ -153,40 +152,31 @@ module _ {B T : Type 0} (history : B → BusHistory) (moved : B → List Access 
   -- nothing was done yet
   pub sealed_none : ((bus : B) → moved bus [] bus) → AreSealed (terms old) write old [] old None
   sealed_none unmoved =
-      only_read (terms old) write old old None (made_not moved (tags_of d n old.engine) unmoved old.bus old.engine None (λ place is. cc)) (step_not (history old.bus) old.engine) refl (omega arith) refl refl (λ level index. refl) (counted_not (history old.bus)) kept rose last
+      only_read (terms old) write old old None (made_not moved (tags_of d n old.engine) unmoved old.bus old.engine None (λ place is. cc)) (step_not (history old.bus) old.engine) refl (omega arith) refl refl (λ level index. refl) kept rose last
       (λ was. was) (λ quiet. inl quiet) (λ place is. absurd (cc)) (λ page is. cc)
 
   -- another line of the page was read
-  pub read_sealed : (at : ℕ) (new : OutsideView B T) (result : Result (List ℕ) MemStop) → at ≢ write.line → page_of at ≡ page_of write.line →
-      MakesAccesses moved (tags_of d n old.engine) old.bus old.engine new.bus new.engine (result_err result) →
-      StepMoves (history old.bus) old.engine (history new.bus) new.engine → new.engine.made ≡ old.engine.made →
-      new.engine.room ≡ old.engine.room → new.pads ≡ old.pads → (history new.bus).written ≡ (history old.bus).written →
-      ((level index : ℕ) → (history new.bus).reads (node_place level index) ≡ (history old.bus).reads (node_place level index)) →
-      AreCounted (history old.bus) (history new.bus) 0 →
-      (AreAccounted (terms old) old None → AreAccounted (terms old) new (result_err result)) →
-      ShowsLies (terms old) old new →
-      ((place : Place) → result ≡ Err (Tampered place) → (place ≡ line_place at)
-      × (old.engine.evidence ≡ None → Rose (history old.bus).lies (history new.bus).lies)) →
-      ((page : ℕ) → result ≢ Err (Spent page)) → AreSealed (terms old) write old [] new (result_err result)
-  read_sealed at new result apart of_page trace moves made room pads written unread counted accounted shows tampered unspent =
-      only_read (terms old) write old new (result_err result) trace moves made (omega (arith, room)) pads written unread counted kept rose last accounted shows
+  read_sealed : (at : ℕ) (counter : Counter) (new : OutsideView B T) (result : Result (List ℕ) MemStop) → at ≢ write.line → page_of at ≡ page_of write.line →
+      IsReadAt (terms old) at counter old new result → AreSealed (terms old) write old [] new (result_err result)
+  read_sealed at counter new result apart of_page r =
+      only_read (terms old) write old new (result_err result) r.trace r.step r.made (omega (arith, r.room)) r.pads r.written r.nodes kept rose last r.accounted r.shows
       (λ place is.
-      let there = tampered place (stop_is result (Tampered place) is) in
+      let there = r.tampered place (stop_is result (Tampered place) is) in
       (record { other = at; place_is = there.0; of_page = of_page; apart = apart }, there.1))
-      (λ page is. unspent page (stop_is result (Spent page) is))
+      (λ page is. r.unspent page (stop_is result (Spent page) is))
 
   -- it stopped
-  pub read_stopped : (at : ℕ) (new : OutsideView B T) (stop : MemStop) → AreSealed (terms old) write old [] new (Some stop) →
-      ((place : Place) → stop ≡ Tampered place → place ≡ line_place at) → AreSealedInOrder (terms old) write old (at ∷ []) new (Some stop)
-  read_stopped at new stop is tampered = record {
+  pub read_stopped : (at : ℕ) (counter : Counter) (new : OutsideView B T) (stop : MemStop) → at ≢ write.line → page_of at ≡ page_of write.line →
+      IsReadAt (terms old) at counter old new (Err stop) → AreSealedInOrder (terms old) write old (at ∷ []) new (Some stop)
+  read_stopped at counter new stop apart of_page r = record {
     count = 0;
     within = omega arith;
-    sealed = is;
+    sealed = read_sealed at counter new (Err stop) apart of_page r;
     reread = λ quiet other listed. absurd (listed_not other listed);
     whole = λ none. absurd (cc);
     failed = λ other is.
         let why : stop ≡ Tampered (line_place other) = cc in
-        let place : line_place other ≡ line_place at = tampered (line_place other) why in
+        let place : line_place other ≡ line_place at = (r.tampered (line_place other) (ap (λ (s : MemStop). Err s) why)).0 in
         let same : at ≡ other = cc in ap (λ (line : ℕ). Some line) same;
   }
 
@@ -210,18 +200,15 @@ module _ {B T : Type 0} (history : B → BusHistory) (moved : B → List Access 
     held = inl (same, bytes);
   }
 
-  pub ready_read : (at : ℕ) (plain found : List ℕ) (mid : OutsideView B T) → AreSealed (terms old) write old [] mid None → mid.engine.made ≡ old.engine.made →
-      mid.pads ≡ old.pads → (history mid.bus).accesses ≤ (history old.bus).accesses + 1 → at ≢ write.line → plain ≡ found →
-      (mid.engine.evidence ≡ None → found ≡ line_bytes old.pads.key old.engine.made at) →
-      (mid.engine.evidence ≡ None → IsFresh at old.pads.used
-      ⊎ Rose ((history old.bus).reads (line_place at)) ((history mid.bus).reads (line_place at))) → IsReady at plain mid
-  ready_read at plain found mid sealed made pads once differs same value rose_to = record {
-    sealed = sealed;
-    made = made;
-    pads = pads;
-    once = once;
-    reread = λ quiet apart. rose_to quiet;
-    held = inr (differs, λ quiet. same ∙ value quiet);
+  pub ready_read : (at : ℕ) (counter : Counter) (plain found : List ℕ) (mid : OutsideView B T) → at ≢ write.line → page_of at ≡ page_of write.line →
+      IsReadAt (terms old) at counter old mid (Ok found) → plain ≡ found → IsReady at plain mid
+  ready_read at counter plain found mid differs of_page r same = record {
+    sealed = read_sealed at counter mid (Ok found) differs of_page r;
+    made = r.made;
+    pads = r.pads;
+    once = r.once;
+    reread = λ quiet apart. r.rose (was_none old.engine.evidence mid.engine.evidence r.step.evidence quiet) (λ is. cc);
+    held = inr (differs, λ quiet. same ∙ r.value quiet);
   }
 
   module _ (at : ℕ) (plain : List ℕ) (mid new : OutsideView B T) (previous : Counter) (ready : IsReady at plain mid)

@@ -22,13 +22,11 @@ use Rattle.pad_stream.specs.Pad.{cipher_of}
 use Rattle.pad_stream.specs.PadEngine.{PadEngineView, after_encrypt}
 use Rattle.pad_stream.specs.Pads.{AreRising, IsBefore}
 use Rattle.pad_stream.proofs.Enciphering.{length-cipher_of}
-use Rattle.checked_bus.specs.Accesses.{AreCounted}
 use Rattle.checked_bus.specs.Makes.{MakesAccesses}
 use Rattle.checked_bus.specs.SealedLine.{sealed_line}
 use Rattle.checked_bus.specs.Steps.{IsAccounted, Moves as StepMoves}
-use Rattle.checked_bus.specs.Steps.{unwritten_in}
 use Rattle.checked_bus.proofs.LineMessages.{last_data-same, last_data-other}
-use Rattle.checked_bus.proofs.Steps.{counted_not, counted_on, data_pairs-append, moves_on as step_on}
+use Rattle.checked_bus.proofs.Steps.{data_pairs-append, moves_on as step_on}
 use Rattle.checked_bus.proofs.TaggedWrites.{wrote_once}
 use Rattle.page_reencrypt.specs.Contents.{HoldsLast, bytes_of, line_bytes}
 use Rattle.page_reencrypt.specs.Consistency.{IsConsistent}
@@ -101,12 +99,12 @@ module _ {B T : Type 0} (terms : MemoryTerms B) (write : LineWrite) where
       StepMoves (terms.history old.bus) old.engine (terms.history new.bus) new.engine → new.engine.made ≡ old.engine.made →
       old.engine.room ≤ new.engine.room → new.pads ≡ old.pads → (terms.history new.bus).written ≡ (terms.history old.bus).written →
       ((level index : ℕ) → (terms.history new.bus).reads (node_place level index) ≡ (terms.history old.bus).reads (node_place level index)) →
-      AreCounted (terms.history old.bus) (terms.history new.bus) 0 → AreConsistent terms old → HaveRisen terms old → HaveLast terms old →
+      AreConsistent terms old → HaveRisen terms old → HaveLast terms old →
       (AreAccounted terms old None → AreAccounted terms new stop) → ShowsLies terms old new →
       ((place : Place) → stop ≡ Some (Tampered place) → IsBeside write.line place
       × (old.engine.evidence ≡ None → Rose (terms.history old.bus).lies (terms.history new.bus).lies)) →
       ((page : ℕ) → stop ≢ Some (Spent page)) → AreSealed terms write old [] new stop
-  only_read old new stop trace moves made room pads written unread counted kept risen last accounted shows tampered unspent = record {
+  only_read old new stop trace moves made room pads written unread kept risen last accounted shows tampered unspent = record {
     trace = trace;
     step = record {
       bus_geometry = moves.bus_geometry;
@@ -128,10 +126,6 @@ module _ {B T : Type 0} (terms : MemoryTerms B) (write : LineWrite) where
     entries = ap (λ (p : PadEngineView). p.used) pads ∙ sym (append-nil old.pads.used);
     pairs = no_pairs;
     as_many = refl;
-    writes = 0;
-    counted = counted;
-    at_most = omega arith;
-    at_least = omega arith;
     room = omega (arith, room);
     pads_room = omega (arith, ap (λ (p : PadEngineView). p.room) pads);
     consistent = subst (λ (p : PadEngineView). IsConsistent terms.tag_of terms.geometry (terms.history new.bus) new.engine.made p.used) (sym pads)
@@ -248,15 +242,14 @@ module _ {B T : Type 0} (terms : MemoryTerms B) (write : LineWrite) where
     was_quiet : new.engine.evidence ≡ None → old.engine.evidence ≡ None
     was_quiet quiet = sym (ap (λ (e : TagEngineView T). e.evidence) made) ∙ quiet
 
-    one_with : (stop : Option MemStop) (writes : ℕ) → MakesAccesses terms.moved terms.tag_of old.bus old.engine new.bus new.engine stop →
-        AreCounted (terms.history old.bus) (terms.history new.bus) writes → writes ≤ 1 → 1 ≤ writes + unwritten_in stop →
+    one_with : (stop : Option MemStop) → MakesAccesses terms.moved terms.tag_of old.bus old.engine new.bus new.engine stop →
         (terms.history new.bus).reads ≡ (terms.history old.bus).reads →
         ((level index : ℕ) → (terms.history new.bus).written (node_place level index) ≡ (terms.history old.bus).written (node_place level index)) →
         ((other : ℕ) → other ≢ at → (terms.history new.bus).written (line_place other) ≡ (terms.history old.bus).written (line_place other)) →
         IsConsistent terms.tag_of terms.geometry (terms.history new.bus) made_now used_now →
         (stop ≢ Some NoMemory → HoldsLast terms.tag_of (line_count terms.geometry) made_now (terms.history new.bus).written) →
         ((place : Place) → stop ≢ Some (Tampered place)) → ((page : ℕ) → stop ≢ Some (Spent page)) → AreSealed terms write old (at ∷ []) new stop
-    one_with stop writes trace counted most least reads nodes lines fits lasts untampered unspent = record {
+    one_with stop trace reads nodes lines fits lasts untampered unspent = record {
       trace = trace;
       step = step;
       nodes = record {
@@ -268,10 +261,6 @@ module _ {B T : Type 0} (terms : MemoryTerms B) (write : LineWrite) where
       entries = used_is;
       pairs = one_pair at write.counter cipher;
       as_many = refl;
-      writes = writes;
-      counted = counted;
-      at_most = most;
-      at_least = least;
       room = omega (arith, ap (λ (e : TagEngineView T). e.room) made);
       pads_room = omega (arith, ap (λ (p : PadEngineView). p.room) used);
       consistent = subst (λ (m : List Message). IsConsistent terms.tag_of terms.geometry (terms.history new.bus) m new.pads.used) (sym made_is)
@@ -302,7 +291,7 @@ module _ {B T : Type 0} (terms : MemoryTerms B) (write : LineWrite) where
     one_sealed trace wrote =
         let once = wrote_once (line_place at) (sealed_line terms.tag_of at write.counter cipher) (terms.history old.bus) (terms.history new.bus) wrote in
         let long : length cipher ≡ 64 = length-cipher_of old.pads.key at write.counter plain in
-        one_with None 1 trace once.counted (omega arith) (omega arith) once.reads
+        one_with None trace once.reads
         (λ level index. ap (λ (w : Place → List ℕ). w (node_place level index)) once.written
         ∙ node_there at (sealed_line terms.tag_of at write.counter cipher) (terms.history old.bus).written level index)
         (λ other differs.
@@ -321,8 +310,7 @@ module _ {B T : Type 0} (terms : MemoryTerms B) (write : LineWrite) where
         terms.history new.bus ≡ terms.history old.bus → AreSealed terms write old (at ∷ []) new (Some NoMemory)
     one_unwritten trace same =
         let long : length cipher ≡ 64 = length-cipher_of old.pads.key at write.counter plain in
-        one_with (Some NoMemory) 0 trace (subst (λ (t : BusHistory). AreCounted (terms.history old.bus) t 0) (sym same) (counted_not (terms.history old.bus)))
-        (omega arith) (omega arith) (ap (λ (t : BusHistory). t.reads) same) (λ level index. ap (λ (t : BusHistory). t.written (node_place level index)) same)
+        one_with (Some NoMemory) trace (ap (λ (t : BusHistory). t.reads) same) (λ level index. ap (λ (t : BusHistory). t.written (node_place level index)) same)
         (λ other differs. ap (λ (t : BusHistory). t.written (line_place other)) same)
         (unwritten_consistent terms.tag_of terms.geometry (terms.history old.bus) old.engine.made old.pads.used at write.counter cipher
         kept inside long (terms.history new.bus) moves.bus_geometry (ap (λ (t : BusHistory). t.written) same))
@@ -389,11 +377,6 @@ module _ {B T : Type 0} (terms : MemoryTerms B) (write : LineWrite) where
         pairs = data_pairs-append a.step.more b.step.more ∙ ap (λ (xs : List (ℕ × Counter)). xs ++ data_pairs b.step.more) a.pairs
             ∙ ap (λ (xs : List (ℕ × Counter)). map sealed_pair lines ++ xs) b.pairs ∙ sym (map-append sealed_pair lines more);
         as_many = omega (arith, length-append a.step.more b.step.more, a.as_many, b.as_many, many);
-        writes = a.writes + b.writes;
-        counted = counted_on (terms.history first.bus) (terms.history second.bus) (terms.history third.bus) a.writes b.writes
-            b.step.bus_geometry b.step.reads b.step.accesses a.counted b.counted;
-        at_most = omega (arith, many, a.at_most, b.at_most);
-        at_least = omega (arith, many, a.at_least, b.at_least);
         room = omega (arith, many, a.room, b.room);
         pads_room = omega (arith, many, a.pads_room, b.pads_room);
         consistent = b.consistent;

@@ -18,7 +18,6 @@ use Rattle.bus_model.specs.BusHistory.{BusHistory}
 use Rattle.tag_engine.specs.TagEngine.{TagEngineView, tags_of}
 use Rattle.checked_bus.specs.Makes.{MakesAccesses}
 use Rattle.checked_bus.specs.Steps.{IsAccounted}
-use Rattle.checked_bus.specs.Steps.{unwritten_in}
 use Rattle.split_counter.specs.CounterBlock.{next_counter}
 use Rattle.counter_cache.specs.Counters.{CountersView, cached_pages}
 use Rattle.page_reencrypt.specs.Contents.{bytes_of, contents_of, counter_in, line_bytes, lines_encrypted}
@@ -29,7 +28,7 @@ use Rattle.page_reencrypt.specs.SealedLines.{AreOfPages, AreProtected, CountersR
 use Rattle.page_reencrypt.specs.Stops.{lasting_stop}
 use Rattle.page_reencrypt.specs.UnderCounters.{WrittenUnderCounters}
 use Rattle.page_reencrypt.proofs.Entries.{encrypted_itself, encrypted_of_page, entry_line, taken}
-use Rattle.page_reencrypt.proofs.Kept.{none_before, protected_after, stop_accesses, stop_accounted, stop_going, stop_lasts, stop_memory, stop_spent, stop_unwritten}
+use Rattle.page_reencrypt.proofs.Kept.{none_before, protected_after, stop_accesses, stop_accounted, stop_going, stop_lasts, stop_memory, stop_spent}
 use Rattle.page_reencrypt.proofs.LineReads.{beside_inside}
 use Rattle.page_reencrypt.proofs.Moves.{moves_not}
 use Rattle.page_reencrypt.proofs.ReadCalls.{lasts_again, lasts_itself}
@@ -157,9 +156,6 @@ module _ {B T : Type 0} (d n : T → List ℕ → List ℕ) (history : B → Bus
     entries = map (λ at. (at, w.counter)) part;
     used_more = w.entries;
     entries_allowed = part_inside;
-    accesses =
-        let more = subst (λ (s : Option MemStop). unwritten_in (result_err result) ≤ unwritten_in s) (sym stops) (stop_unwritten m.stopped going (result_err result)) in
-        record { writes = w.writes.writes; counted = w.writes.counted; at_most = w.writes.at_most; at_least = omega (arith, more, w.writes.at_least) };
     idle = λ stop is. absurd (cc);
     accounted = λ was.
         let before = none_before m.stopped going (tags_of d n m.engine) m.pads.used m.engine.made (history m.bus) m.engine.evidence was in

@@ -3,7 +3,9 @@ use Rattle.std.specs.Prelude.{◌≡◌, ◌≢◌, ◌⊎◌, ℕ, ◌+◌, ◌
 use Rattle.std.specs.List.{slice_get}
 use Rattle.std.specs.Result.{result_err}
 use Rattle.sec_base.specs.declared.counter.Counter.{Counter}
+use Rattle.sec_base.specs.declared.evidence.Evidence.{Evidence}
 use Rattle.sec_base.specs.declared.evidence.Evidence.TheVariants.{Collision, Forgery}
+use Rattle.sec_base.specs.Evidence.{evidence_place}
 use Rattle.sec_base.specs.declared.sealed.Sealed.{Sealed}
 use Rattle.sec_base.specs.declared.geometry.TheConstants.{LINES_PER_PAGE}
 use Rattle.sec_base.specs.declared.message.Message.{Message}
@@ -20,12 +22,9 @@ use Rattle.tag_engine.specs.TagEngine.{TagEngineView, tags_of, with_room as tags
 use Rattle.pad_stream.specs.Pad.{cipher_of}
 use Rattle.pad_stream.specs.PadEngine.{PadEngineView, with_room as pads_with_room}
 use Rattle.pad_stream.specs.Pads.{AreRising}
-use Rattle.checked_bus.specs.Accesses.{AreCounted}
 use Rattle.checked_bus.specs.Makes.{MakesAccesses}
 use Rattle.checked_bus.specs.Steps.{IsAccounted, Moves as StepMoves, SameLines}
 use Rattle.split_counter.specs.CounterBlock.{block_of, counter_of, last_counter, next_counter, place_of}
-use Rattle.checked_bus.specs.Accesses.{WritesMessages}
-use Rattle.checked_bus.specs.Steps.{unwritten_in}
 use Rattle.bonsai_tree.specs.Tree.{IsFetchPlace, NodesHoldLast, PathWasRead, UnmadeAreUnread}
 use Rattle.counter_cache.specs.Counters.{CountersView, HoldsCounters, SameCounters, cached_pages, counter_accesses, counters_in}
 use Rattle.page_reencrypt.specs.Consistency.{IsConsistent}
@@ -136,10 +135,37 @@ module _ {B T : Type 0} (terms : MemoryTerms B) where
     pub lines : SameLines (terms.history old.bus) old.engine.made (terms.history new.bus) new.engine.made
     pub used : new.pads.used ≡ old.pads.used
     pub key : new.pads.key ≡ old.pads.key
-    pub writes : WritesMessages (terms.history old.bus) (terms.history new.bus) (length step.more) (unwritten_in stop)
     pub consistent : AreConsistent new
     pub holds_last : HaveLast new
     pub nodes_hold_last : stop ≢ Some NoMemory → HaveLastNodes new
+
+  -- A line was read from its place under a counter, by one access at most, or not at all where that is the counter of a line that
+  -- was never written. Nothing was encrypted, tagged or written.
+  pub record IsReadAt (line : ℕ) (counter : Counter) (old new : OutsideView B T) (result : Result (List ℕ) MemStop) : Type 0 where
+    pub value : new.engine.evidence ≡ None → IfOk result (λ bytes. bytes ≡ line_bytes old.pads.key old.engine.made line)
+    pub fresh : old.engine.evidence ≡ None → IsFresh line old.pads.used → (result_err result ≡ None) × (new ≡ old)
+    pub trace : MakesAccesses terms.moved terms.tag_of old.bus old.engine new.bus new.engine (result_err result)
+    pub step : StepMoves (terms.history old.bus) old.engine (terms.history new.bus) new.engine
+    pub made : new.engine.made ≡ old.engine.made
+    pub room : new.engine.room ≡ old.engine.room
+    pub pads : new.pads ≡ old.pads
+    pub written : (terms.history new.bus).written ≡ (terms.history old.bus).written
+    pub once : (terms.history new.bus).accesses ≤ (terms.history old.bus).accesses + 1
+    pub alone : (other : ℕ) → other ≢ line → (terms.history new.bus).reads (line_place other) ≡ (terms.history old.bus).reads (line_place other)
+    pub nodes : (level index : ℕ) → (terms.history new.bus).reads (node_place level index) ≡ (terms.history old.bus).reads (node_place level index)
+    pub rose : old.engine.evidence ≡ None → result_err result ≢ Some NoMemory → IsFresh line old.pads.used
+        ⊎ Rose ((terms.history old.bus).reads (line_place line)) ((terms.history new.bus).reads (line_place line))
+    -- a false answer is shown as evidence or taken for tampering, both of this line
+    pub accounted : AreAccounted old None → AreAccounted new (result_err result)
+    pub shows : ShowsLies old new
+    pub found : (evidence : Evidence) → old.engine.evidence ≡ None → new.engine.evidence ≡ Some evidence → evidence_place evidence ≡ line_place line
+    pub under : IfOk result (IsReadUnder terms.tag_of old.pads.key line counter (terms.history new.bus))
+    pub accepted : (at : ℕ) (accepted_under : Counter) (sealed : Sealed) (made_count : ℕ) → old.engine.evidence ≡ None →
+        new.engine.evidence ≡ Some (Forgery at accepted_under sealed made_count) →
+        (at ≡ line) × (made_count ≡ length new.engine.made) × (result ≡ Ok (cipher_of old.pads.key line accepted_under sealed.cipher))
+    pub tampered : (place : Place) → result ≡ Err (Tampered place) → (place ≡ line_place line)
+        × (old.engine.evidence ≡ None → Rose (terms.history old.bus).lies (terms.history new.bus).lies)
+    pub unspent : (page : ℕ) → result ≢ Err (Spent page)
 
   -- A line was read under its counter, once its page's counters were had; or what was done of it where it stopped.
   pub record IsLineRead (line : ℕ) (old : OutsideView B T) (counters : CountersView) (new : OutsideView B T) (counters' : CountersView)
@@ -149,7 +175,6 @@ module _ {B T : Type 0} (terms : MemoryTerms B) where
     pub pairs : data_pairs step.more ≡ []
     pub geometry : counters'.tree.geometry ≡ counters.tree.geometry
     pub pads : new.pads ≡ old.pads
-    pub writes : WritesMessages (terms.history old.bus) (terms.history new.bus) (length step.more) (unwritten_in (result_err result))
     pub once : (terms.history new.bus).accesses ≤ (terms.history old.bus).accesses + (counter_accesses terms.geometry.levels + 1)
     -- the counters make no access where they are on the chip
     pub hit : Contains (cached_pages counters) (page_of line) → (terms.history new.bus).accesses ≤ (terms.history old.bus).accesses + 1
@@ -199,10 +224,6 @@ module _ {B T : Type 0} (terms : MemoryTerms B) where
     pub entries : new.pads.used ≡ old.pads.used ++ map (λ line. (line, write.counter)) lines
     pub pairs : data_pairs step.more ≡ map (λ line. (line, write.counter)) lines
     pub as_many : length step.more ≡ length lines
-    pub writes : ℕ
-    pub counted : AreCounted (terms.history old.bus) (terms.history new.bus) writes
-    pub at_most : writes ≤ length lines
-    pub at_least : length lines ≤ writes + unwritten_in stop
     pub room : old.engine.room ≤ new.engine.room + length lines
     pub pads_room : old.pads.room ≤ new.pads.room + length lines
     -- what fit together before fits after it
@@ -247,7 +268,6 @@ module _ {B T : Type 0} (terms : MemoryTerms B) where
     pub step : StepMoves (terms.history old.bus) old.engine (terms.history new.bus) new.engine
     pub geometry : counters'.tree.geometry ≡ counters.tree.geometry
     pub key : new.pads.key ≡ old.pads.key
-    pub writes : WritesMessages (terms.history old.bus) (terms.history new.bus) (length step.more) (unwritten_in stop)
     pub consistent : AreConsistent new
     pub risen : HaveRisen new
     pub holds_last : stop ≢ Some NoMemory → HaveLast new

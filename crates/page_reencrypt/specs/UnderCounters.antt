@@ -78,6 +78,8 @@ module _ {B T : Type 0} (history : B → BusHistory) (bus_moved : B → List Acc
         outcome ≡ bumped limit (counter_of (place_of line) (counters_in counters_had between.engine.made (page_of line)))
     pub spent : refused ≡ None → outcome ≡ Spent → (new ≡ between) × (counters' ≡ counters_had) × (stop ≡ Some (spent_page (page_of line)))
     pub only_spent : (page : ℕ) → stop ≡ Some (spent_page page) → (refused ≡ None) × (outcome ≡ Spent)
+    -- the accesses that it made once its counters were had
+    pub trace : refused ≡ None → MakesAccesses bus_moved (tags between.engine) between.bus between.engine new.bus new.engine stop
     pub counted : refused ≡ None → outcome ≢ Spent →
         (DiffersInRoom between new × (counters' ≡ counters_had) × (stop ≡ Some NoMemory))
         ⊎ IsCountedUp limit line outcome counters_had between counters' new

@@ -1,36 +1,26 @@
 // The memory outside the chip: lines that are encrypted, tagged and checked under counters that are given, and the
 // counters themselves.
-ghost use Rattle.std.specs.Prelude.{◌≡◌, ◌≢◌, ◌+◌, ◌*◌, ◌<◌, ◌≤◌, ◌⊎◌, ◌∷◌, [], ℕ, List, None, Some, Ok, Err, IfOk, IsOk, OnOk, OnErr, Contains, length};
+ghost use Rattle.std.specs.Prelude.{◌≡◌, ◌≢◌, ◌+◌, ◌<◌, ◌≤◌, ◌∷◌, [], ℕ, List, None, IfOk, OnOk, OnErr, length};
 ghost use Rattle.std.specs.Result.{result_err};
-ghost use Rattle.sec_base.specs.Count.{Rose};
 ghost use Rattle.sec_base.specs.Geometry.{line_count, page_count, page_of};
-ghost use Rattle.sec_base.specs.LastMessage.{IsFresh};
 ghost use Rattle.sec_base.specs.declared.counter.Counter.{Counter};
-ghost use Rattle.sec_base.specs.Evidence.{evidence_place};
-ghost use Rattle.sec_base.specs.declared.evidence.Evidence.{Evidence};
-ghost use Rattle.sec_base.specs.declared.evidence.Evidence.TheVariants.{Collision, Forgery};
 ghost use Rattle.sec_base.specs.declared.message.Message.TheVariants.{Line};
-ghost use Rattle.sec_base.specs.declared.place.Place.{Place};
-ghost use Rattle.sec_base.specs.declared.place.Place.TheVariants.{Line as line_place, Node as node_place};
-ghost use Rattle.sec_base.specs.declared.sealed.Sealed.{Sealed};
-ghost use Rattle.sec_base.specs.declared.stop.MemStop.TheVariants.{Tampered, Spent, NoMemory as no_memory};
+ghost use Rattle.sec_base.specs.declared.place.Place.TheVariants.{Line as line_place};
 ghost use Rattle.bus_model.specs.BusHistory.{after_write};
-ghost use Rattle.cache_set.specs.Cache.{IsLatest};
 ghost use Rattle.tag_engine.specs.TagEngine.{after_make, tags_of};
 ghost use Rattle.pad_stream.specs.Pad.{cipher_of};
 ghost use Rattle.pad_stream.specs.PadEngine.{after_encrypt};
 ghost use Rattle.pad_stream.specs.Pads.{IsBefore};
-ghost use Rattle.checked_bus.specs.Accesses.{AreCounted};
 ghost use Rattle.checked_bus.specs.Makes.{MakesAccesses};
 ghost use Rattle.checked_bus.specs.SealedLine.{sealed_line};
 ghost use Rattle.checked_bus.specs.Steps.{IsAccounted, Moves as StepMoves};
-ghost use Rattle.split_counter.specs.CounterBlock.{CounterBlockView, IsCounterBlock, block_of, counter_of, place_of};
-ghost use Rattle.bonsai_tree.specs.Tree.{IsFetchPlace, PathWasRead, UnmadeAreUnread, want_of};
-ghost use Rattle.counter_cache.specs.Counters.{AreCopies, AreHad, SameCounters, cached_pages, counter_accesses, counters_in};
+ghost use Rattle.split_counter.specs.CounterBlock.{IsCounterBlock, counter_of, place_of};
+ghost use Rattle.bonsai_tree.specs.Tree.{want_of};
+ghost use Rattle.counter_cache.specs.Counters.{counters_in};
 ghost use Rattle.counter_cache.specs.HadCounters.{HadCounters};
-ghost use Rattle.page_reencrypt.specs.Contents.{line_bytes, page_lines};
-ghost use Rattle.page_reencrypt.specs.Outside.{Accepts, AreAccounted, AreConsistent, AreSealedInOrder, CountersFit, CountersSay, DiffersInRoom, HasCounter, HaveLast, HaveLastNodes, HaveRisen, IsAcceptedBeside, IsNodeStep, NodesSayStill, ShowsLies, terms_of, with_room};
-ghost use Rattle.page_reencrypt.specs.SealedLines.{AreOfPages, CopiesCame, IsReadUnder, KeepsFew};
+ghost use Rattle.page_reencrypt.specs.Contents.{page_lines};
+ghost use Rattle.page_reencrypt.specs.Outside.{Accepts, AreConsistent, AreSealedInOrder, CountersFit, CountersSay, DiffersInRoom, HasCounter, HaveLast, HaveLastNodes, HaveRisen, IsAcceptedBeside, IsNodeStep, IsReadAt, NodesSayStill, terms_of, with_room};
+ghost use Rattle.page_reencrypt.specs.SealedLines.{AreOfPages};
 
 use bus_model::Bus;
 use checked_bus::{read_line, write_line};
@@ -94,23 +84,7 @@ impl<B: Bus, T: Tagger> Outside<B, T> {
             ≡ counters_in counters.new self.new.engine.made page) }
         ensures pads { self.new.pads ≡ self.old.pads }
         ensures geometry { counters.new.tree.geometry ≡ counters.old.tree.geometry }
-        ensures once { (B.history self.new.bus).accesses
-            ≤ (B.history self.old.bus).accesses + counter_accesses self.old.engine.geometry.levels }
-
-        // Where the counters fit or there is evidence, they still do, and the counters are the current ones.
-        ensures fits { CountersFit (terms_of B.history B.moved T.data_tag_of T.node_tag_of self.old)
-            self.old counters.old →
-            OnOk result (CountersFit (terms_of B.history B.moved T.data_tag_of T.node_tag_of
-            self.old) self.new counters.new) }
-        ensures block { CountersFit (terms_of B.history B.moved T.data_tag_of T.node_tag_of
-            self.old) self.old counters.old →
-            self.new.engine.evidence ≡ None →
-            IfOk result (λ block. block ≡ counters_in counters.old self.old.engine.made page) }
         ensures is_block { IfOk result IsCounterBlock }
-        ensures same { CountersFit (terms_of B.history B.moved T.data_tag_of T.node_tag_of self.old)
-            self.old counters.old →
-            self.new.engine.evidence ≡ None →
-            SameCounters counters.old self.old.engine.made counters.new self.new.engine.made }
 
         // A counter block that goes out is made with the counters of its page's lines.
         ensures nodes { AreOfPages self.old.engine.geometry counters.old →
@@ -120,59 +94,7 @@ impl<B: Bus, T: Tagger> Outside<B, T> {
             counters.old →
             NodesSayStill (terms_of B.history B.moved T.data_tag_of T.node_tag_of self.old) self.old
             self.new }
-
-        // A page without a copy has its block read from its place, and so are the nodes above it up to the lowest one that has a copy,
-        // but for those that were never made, and has a copy then. One with a copy makes no access.
-        ensures read { CountersFit (terms_of B.history B.moved T.data_tag_of T.node_tag_of self.old)
-            self.old counters.old →
-            self.new.engine.evidence ≡ None → ¬ Contains (cached_pages counters.old) page →
-            OnOk result (PathWasRead counters.old.tree self.old.engine.made 0 page
-            (B.history self.old.bus) (B.history self.new.bus)) }
-        ensures idle { Contains (cached_pages counters.old) page →
-            (B.history self.new.bus ≡ B.history self.old.bus)
-            × (self.new.engine ≡ self.old.engine) }
-        ensures latest { OnOk result (IsLatest counters.new.blocks page) }
-        ensures copied { AreCopies counters.new }
-        ensures few_copies { KeepsFew counters.old counters.new }
-        ensures copies { CountersFit (terms_of B.history B.moved T.data_tag_of T.node_tag_of
-            self.old) self.old counters.old →
-            self.new.engine.evidence ≡ None →
-            CopiesCame page (B.history self.old.bus) self.old.engine.made counters.old
-            (B.history self.new.bus) self.new.engine.made counters.new (result_err result) }
-        ensures unread { CountersFit (terms_of B.history B.moved T.data_tag_of T.node_tag_of
-            self.old) self.old counters.old →
-            self.new.engine.evidence ≡ None →
-            UnmadeAreUnread (B.history self.old.bus) self.new.engine.made (B.history self.new.bus) }
         ensures pages { AreOfPages self.old.engine.geometry counters.new }
-
-        // A false answer is shown as evidence or taken for tampering.
-        ensures accounted { CountersFit (terms_of B.history B.moved T.data_tag_of T.node_tag_of
-            self.old) self.old counters.old →
-            AreAccounted (terms_of B.history B.moved T.data_tag_of T.node_tag_of self.old) self.old
-            None →
-            AreAccounted (terms_of B.history B.moved T.data_tag_of T.node_tag_of self.old) self.new
-            (result_err result) }
-        ensures shows { CountersFit (terms_of B.history B.moved T.data_tag_of T.node_tag_of
-            self.old) self.old counters.old →
-            ShowsLies (terms_of B.history B.moved T.data_tag_of T.node_tag_of self.old) self.old
-            self.new }
-        ensures found { (evidence : Evidence) → self.old.engine.evidence ≡ None →
-            self.new.engine.evidence ≡ Some evidence →
-            IsFetchPlace self.old.engine.geometry page (evidence_place evidence) }
-        ensures accepted { (made_at : ℕ) (bytes tag : List ℕ) → self.old.engine.evidence ≡ None →
-            self.new.engine.evidence ≡ Some (Collision 0 page made_at bytes tag) →
-            result ≡ Ok (block_of bytes) }
-        ensures checked { (block : CounterBlockView) → result ≡ Ok block →
-            AreHad (tags_of T.data_tag_of T.node_tag_of self.old.engine)
-            counters.old counters.new self.new.engine.made page self.old.engine.evidence
-            self.new.engine.evidence block }
-        ensures tampered { (place : Place) → result ≡ Err (Tampered place) →
-            IsFetchPlace self.old.engine.geometry page place
-            × (CountersFit (terms_of B.history B.moved T.data_tag_of T.node_tag_of self.old)
-            self.old counters.old →
-            self.old.engine.evidence ≡ None →
-            Rose (B.history self.old.bus).lies (B.history self.new.bus).lies) }
-        ensures unspent { (spent : ℕ) → result ≢ Err (Spent spent) }
     {
         counters.get(&mut self.bus, &mut self.tags, page)
     }
@@ -190,58 +112,8 @@ impl<B: Bus, T: Tagger> Outside<B, T> {
         requires counter { self.old.engine.evidence ≡ None →
             HasCounter self.old.pads.used line counter }
 
-        ensures value { self.new.engine.evidence ≡ None →
-            IfOk result (λ bytes. bytes ≡ line_bytes self.old.pads.key self.old.engine.made line) }
-        ensures fresh { self.old.engine.evidence ≡ None → IsFresh line self.old.pads.used →
-            IsOk result × (self.new ≡ self.old) }
-
-        // It is a read of the line's place at most, and nothing is encrypted, tagged or written.
-        ensures moves { StepMoves (B.history self.old.bus) self.old.engine (B.history self.new.bus)
-            self.new.engine }
-        ensures accesses { MakesAccesses B.moved
-            (tags_of T.data_tag_of T.node_tag_of self.old.engine)
-            self.old.bus self.old.engine self.new.bus self.new.engine (result_err result) }
-        ensures unmade { self.new.engine.made ≡ self.old.engine.made }
-        ensures room { self.new.engine.room ≡ self.old.engine.room }
-        ensures pads { self.new.pads ≡ self.old.pads }
-        ensures unwritten { (B.history self.new.bus).written ≡ (B.history self.old.bus).written }
-        ensures counted { AreCounted (B.history self.old.bus) (B.history self.new.bus) 0 }
-        ensures once { (B.history self.new.bus).accesses ≤ (B.history self.old.bus).accesses + 1 }
-        ensures alone { (other : ℕ) → other ≢ line →
-            (B.history self.new.bus).reads (line_place other)
-            ≡ (B.history self.old.bus).reads (line_place other) }
-        ensures nodes { (level index : ℕ) →
-            (B.history self.new.bus).reads (node_place level index)
-            ≡ (B.history self.old.bus).reads (node_place level index) }
-        ensures rose { self.old.engine.evidence ≡ None → result ≢ Err no_memory →
-            IsFresh line self.old.pads.used
-            ⊎ Rose ((B.history self.old.bus).reads (line_place line))
-            ((B.history self.new.bus).reads (line_place line)) }
-
-        // A false answer is shown as evidence or taken for tampering.
-        ensures accounted { AreAccounted (terms_of B.history B.moved T.data_tag_of T.node_tag_of
-            self.old) self.old None →
-            AreAccounted (terms_of B.history B.moved T.data_tag_of T.node_tag_of self.old) self.new
-            (result_err result) }
-        ensures shows { ShowsLies (terms_of B.history B.moved T.data_tag_of T.node_tag_of self.old)
-            self.old self.new }
-        ensures found { (evidence : Evidence) → self.old.engine.evidence ≡ None →
-            self.new.engine.evidence ≡ Some evidence →
-            evidence_place evidence ≡ line_place line }
-        ensures under { IfOk result
-            (IsReadUnder (tags_of T.data_tag_of T.node_tag_of self.old.engine) self.old.pads.key
-            line counter
-            (B.history self.new.bus)) }
-        ensures accepted { (at : ℕ) (under : Counter) (sealed : Sealed) (made_count : ℕ) →
-            self.old.engine.evidence ≡ None →
-            self.new.engine.evidence ≡ Some (Forgery at under sealed made_count) →
-            (at ≡ line) × (made_count ≡ length self.new.engine.made)
-            × (result ≡ Ok (cipher_of self.old.pads.key line under sealed.cipher)) }
-        ensures tampered { (place : Place) → result ≡ Err (Tampered place) →
-            (place ≡ line_place line)
-            × (self.old.engine.evidence ≡ None →
-            Rose (B.history self.old.bus).lies (B.history self.new.bus).lies) }
-        ensures unspent { (page : ℕ) → result ≢ Err (Spent page) }
+        ensures read { IsReadAt (terms_of B.history B.moved T.data_tag_of T.node_tag_of self.old)
+            line counter self.old self.new result }
     {
         if counter == NEVER_WRITTEN {
             return Ok([0; LINE_LEN as usize]);

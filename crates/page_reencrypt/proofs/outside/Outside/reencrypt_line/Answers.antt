@@ -1,13 +1,12 @@
-use Rattle.std.proofs.Common.{◌≡◌, ◌∷◌, [], length, Option, Some, None, Ok, Err, ap, sym, ◌∙◌, subst, arith, rules}
+use Rattle.std.proofs.Common.{◌≡◌, ◌∷◌, [], length, Option, Some, None, ap, sym, ◌∙◌, subst, arith, rules}
 use Rattle.std.specs.Result.{result_err}
 use Rattle.sec_base.specs.declared.stop.MemStop.{MemStop}
 use Rattle.sec_base.specs.declared.stop.MemStop.TheVariants.{NoMemory}
-use Rattle.sec_base.proofs.Results.{was_none}
 use Rattle.tag_engine.specs.TagEngine.{TagEngineView, tags_of}
 use Rattle.pad_stream.specs.Pad.{cipher_of}
 use Rattle.checked_bus.specs.SealedLine.{sealed_line}
 use Rattle.page_reencrypt.specs.Outside.{AreSealedInOrder, LineWrite, OutsideView, terms_of}
-use Rattle.page_reencrypt.proofs.Reencrypting.{IsReady, line_sealed, line_unwritten, one_access, read_sealed, read_stopped, ready_own, ready_read}
+use Rattle.page_reencrypt.proofs.Reencrypting.{IsReady, line_sealed, line_unwritten, one_access, read_stopped, ready_own, ready_read}
 use Rattle.page_reencrypt.proofs.outside.Outside.reencrypt_line.Goals.{then-at-line, else-at-line+in_ok-plain}
 use Rattle.page_reencrypt.proofs.outside.Outside.reencrypt_line.Goals as goal
 
@@ -15,16 +14,11 @@ pub returns-in_err-plain-clause-sealed : goal.returns-in_err-plain-clause-sealed
 returns-in_err-plain-clause-sealed g c =
     let write : LineWrite = record { line = c.args.line; bytes = c.args.bytes.now; counter = c.args.counter } in
     let why = c.in_err-plain.field-0.0 in
-    let read = c.in_err-plain.ensures in
     let stop : result_err c.from_residual.result ≡ Some why = search rules in
     subst (λ (s : Option MemStop). AreSealedInOrder (terms_of g.B.Bus.history g.B.Bus.moved g.T.Tagger.data_tag_of g.T.Tagger.node_tag_of c.args.self.now)
     write c.args.self.now (c.args.at ∷ []) c.read.new.self s) (sym stop)
     (read_stopped g.B.Bus.history g.B.Bus.moved g.T.Tagger.data_tag_of g.T.Tagger.node_tag_of write c.args.self.now c.requires.consistent c.requires.risen c.requires.holds_last
-    c.args.at c.read.new.self why
-    (read_sealed g.B.Bus.history g.B.Bus.moved g.T.Tagger.data_tag_of g.T.Tagger.node_tag_of write c.args.self.now c.requires.consistent c.requires.risen c.requires.holds_last
-    c.args.at c.read.new.self (Err why) c.if-at-line.false c.requires.of_page
-    read.accesses read.moves read.unmade read.room read.pads read.unwritten read.nodes read.counted read.accounted read.shows read.tampered read.unspent)
-    (λ place is. (read.tampered place (ap (λ (s : MemStop). Err s) is)).0))
+    c.args.at c.args.old c.read.new.self why c.if-at-line.false c.requires.of_page c.in_err-plain.ensures.read)
 
 pub returns-in_err-seal-clause-sealed : goal.returns-in_err-seal-clause-sealed
 returns-in_err-seal-clause-sealed g c =
@@ -40,16 +34,11 @@ returns-in_err-seal-clause-sealed g c =
           (ready_own g.B.Bus.history g.B.Bus.moved g.T.Tagger.data_tag_of g.T.Tagger.node_tag_of write c.args.self.now c.requires.consistent c.requires.risen c.requires.holds_last
           c.args.at c.if-at-line.plain g.met.B.Bus.unmoved w.if-at-line.true w.plain-is)
       | else-at-line+in_ok-plain w ↦
-          let read = w.in_ok-plain.ensures in
           subst (λ (o : OutsideView g.row.B.Denot g.row.T.Denot).
           IsReady g.B.Bus.history g.B.Bus.moved g.T.Tagger.data_tag_of g.T.Tagger.node_tag_of write c.args.self.now c.requires.consistent c.requires.risen c.requires.holds_last
           c.args.at c.if-at-line.plain o) (sym w.self-is)
           (ready_read g.B.Bus.history g.B.Bus.moved g.T.Tagger.data_tag_of g.T.Tagger.node_tag_of write c.args.self.now c.requires.consistent c.requires.risen c.requires.holds_last
-          c.args.at c.if-at-line.plain w.in_ok-plain.plain w.read.new.self
-          (read_sealed g.B.Bus.history g.B.Bus.moved g.T.Tagger.data_tag_of g.T.Tagger.node_tag_of write c.args.self.now c.requires.consistent c.requires.risen c.requires.holds_last
-          c.args.at w.read.new.self (Ok w.in_ok-plain.plain) w.if-at-line.false c.requires.of_page
-          read.accesses read.moves read.unmade read.room read.pads read.unwritten read.nodes read.counted read.accounted read.shows read.tampered read.unspent)
-          read.unmade read.pads read.once w.if-at-line.false w.plain-is read.value (λ quiet. read.rose (was_none c.args.self.now.engine.evidence w.read.new.self.engine.evidence read.moves.evidence quiet) (λ is. cc)))
+          c.args.at c.args.old c.if-at-line.plain w.in_ok-plain.plain w.read.new.self w.if-at-line.false c.requires.of_page w.in_ok-plain.ensures.read w.plain-is)
     ] in
     subst (λ (s : Option MemStop). AreSealedInOrder (terms_of g.B.Bus.history g.B.Bus.moved g.T.Tagger.data_tag_of g.T.Tagger.node_tag_of c.args.self.now)
     write c.args.self.now (c.args.at ∷ []) c.seal.new.self s) (sym stop)
@@ -71,16 +60,11 @@ returns-clause-sealed g c =
           (ready_own g.B.Bus.history g.B.Bus.moved g.T.Tagger.data_tag_of g.T.Tagger.node_tag_of write c.args.self.now c.requires.consistent c.requires.risen c.requires.holds_last
           c.args.at c.if-at-line.plain g.met.B.Bus.unmoved w.if-at-line.true w.plain-is)
       | else-at-line+in_ok-plain w ↦
-          let read = w.in_ok-plain.ensures in
           subst (λ (o : OutsideView g.row.B.Denot g.row.T.Denot).
           IsReady g.B.Bus.history g.B.Bus.moved g.T.Tagger.data_tag_of g.T.Tagger.node_tag_of write c.args.self.now c.requires.consistent c.requires.risen c.requires.holds_last
           c.args.at c.if-at-line.plain o) (sym w.self-is)
           (ready_read g.B.Bus.history g.B.Bus.moved g.T.Tagger.data_tag_of g.T.Tagger.node_tag_of write c.args.self.now c.requires.consistent c.requires.risen c.requires.holds_last
-          c.args.at c.if-at-line.plain w.in_ok-plain.plain w.read.new.self
-          (read_sealed g.B.Bus.history g.B.Bus.moved g.T.Tagger.data_tag_of g.T.Tagger.node_tag_of write c.args.self.now c.requires.consistent c.requires.risen c.requires.holds_last
-          c.args.at w.read.new.self (Ok w.in_ok-plain.plain) w.if-at-line.false c.requires.of_page
-          read.accesses read.moves read.unmade read.room read.pads read.unwritten read.nodes read.counted read.accounted read.shows read.tampered read.unspent)
-          read.unmade read.pads read.once w.if-at-line.false w.plain-is read.value (λ quiet. read.rose (was_none c.args.self.now.engine.evidence w.read.new.self.engine.evidence read.moves.evidence quiet) (λ is. cc)))
+          c.args.at c.args.old c.if-at-line.plain w.in_ok-plain.plain w.read.new.self w.if-at-line.false c.requires.of_page w.in_ok-plain.ensures.read w.plain-is)
     ] in
     line_sealed g.B.Bus.history g.B.Bus.moved g.T.Tagger.data_tag_of g.T.Tagger.node_tag_of write c.args.self.now c.requires.consistent c.requires.risen c.requires.holds_last
     c.args.at c.if-at-line.plain c.if-at-line.self c.seal.new.self c.args.old ready c.requires.inside c.requires.counter
@@ -98,7 +82,7 @@ returns-clause-once g c =
           let same = ap (λ (o : OutsideView g.row.B.Denot g.row.T.Denot). (g.B.Bus.history o.bus).accesses) w.self-is in omega (arith, wrote, same)
       | else-at-line+in_ok-plain w ↦
           let same = ap (λ (o : OutsideView g.row.B.Denot g.row.T.Denot). (g.B.Bus.history o.bus).accesses) w.self-is in
-          omega (arith, wrote, same, w.in_ok-plain.ensures.once)
+          omega (arith, wrote, same, w.in_ok-plain.ensures.read.once)
     ]
 
 pub returns-clause-own : goal.returns-clause-own
@@ -115,7 +99,7 @@ returns-clause-own g c = λ own.
 
 pub returns-in_err-plain-clause-accepted : goal.returns-in_err-plain-clause-accepted
 returns-in_err-plain-clause-accepted g c = λ found under answer made_count quiet is.
-    let refused = (c.in_err-plain.ensures.accepted found under answer made_count quiet is).2 in absurd (cc)
+    let refused = (c.in_err-plain.ensures.read.accepted found under answer made_count quiet is).2 in absurd (cc)
 
 pub returns-in_err-seal-clause-accepted : goal.returns-in_err-seal-clause-accepted
 returns-in_err-seal-clause-accepted g c = λ found under answer made_count quiet is.
@@ -125,11 +109,11 @@ returns-in_err-seal-clause-accepted g c = λ found under answer made_count quiet
           let none : c.if-at-line.self.engine.evidence ≡ None = ap (λ (o : OutsideView g.row.B.Denot g.row.T.Denot). o.engine.evidence) w.self-is ∙ quiet in
           absurd (cc)
       | else-at-line+in_ok-plain w ↦
-          let read = w.in_ok-plain.ensures in
+          let read = w.in_ok-plain.ensures.read in
           let was : c.if-at-line.self.engine.evidence ≡ w.read.new.self.engine.evidence =
           ap (λ (o : OutsideView g.row.B.Denot g.row.T.Denot). o.engine.evidence) w.self-is in
           let there = read.accepted found under answer made_count quiet (sym (same ∙ was) ∙ is) in
-          (there.0, w.if-at-line.false, there.1 ∙ ap length read.unmade)
+          (there.0, w.if-at-line.false, there.1 ∙ ap length read.made)
     ]
 
 pub returns-clause-accepted : goal.returns-clause-accepted
@@ -140,9 +124,9 @@ returns-clause-accepted g c = λ found under answer made_count quiet is.
           let none : c.if-at-line.self.engine.evidence ≡ None = ap (λ (o : OutsideView g.row.B.Denot g.row.T.Denot). o.engine.evidence) w.self-is ∙ quiet in
           absurd (cc)
       | else-at-line+in_ok-plain w ↦
-          let read = w.in_ok-plain.ensures in
+          let read = w.in_ok-plain.ensures.read in
           let was : c.if-at-line.self.engine.evidence ≡ w.read.new.self.engine.evidence =
           ap (λ (o : OutsideView g.row.B.Denot g.row.T.Denot). o.engine.evidence) w.self-is in
           let there = read.accepted found under answer made_count quiet (sym (same ∙ was) ∙ is) in
-          (there.0, w.if-at-line.false, there.1 ∙ ap length read.unmade)
+          (there.0, w.if-at-line.false, there.1 ∙ ap length read.made)
     ]
