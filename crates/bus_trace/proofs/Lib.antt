@@ -2,3 +2,9 @@ pub mod SpelledFields
 pub mod SpelledEntries
 pub mod EntryLoop
 pub mod RoundTrip
+pub mod Prefixes
+pub mod Comparing
+pub mod Writes
+pub mod Stands
+pub mod Endings
+pub mod Outputs

@@ -4,3 +4,8 @@ pub mod RecordBus
 pub mod Format
 pub mod Reading
 pub mod Reads
+pub mod FirstFalse
+pub mod Judge
+pub mod Comparison
+pub mod LastWrites
+pub mod Stand
