@@ -8,7 +8,7 @@ use Rattle.hmac_tag.specs.DeviceKeys.{keys_of}
 use Rattle.hmac_tag.specs.Tags.{TagKeys, tag_of, xor_tag_of}
 use Rattle.hmac_tag.specs.declared.derivation.Keys.{Keys}
 use Rattle.tag_engine.specs.Tag.{engine_tag}
-use Rattle.rv32_core.specs.Machine.{opening as image_opening}
+use Rattle.rv32_core.specs.Machine.{Machine, opening as image_opening}
 use Rattle.sec_base.specs.Program.{IsImageOf, Program}
 use Rattle.chip_words.specs.declared.request.Tags.TheVariants.{Hmac, Xor}
 use Rattle.chip_words.specs.declared.request.Terms.{Terms}
@@ -18,7 +18,7 @@ use Rattle.sec_base.specs.declared.message.Message.{Message}
 use Rattle.bus_model.specs.Access.{Access, AreOf, CameBy}
 use Rattle.bus_model.specs.BusHistory.{BusHistory, new_history}
 use Rattle.checked_bus.specs.Makes.{access_of}
-use Rattle.chip_run.specs.Run.{KeepsAccesses, Terms as RunTerms}
+use Rattle.chip_run.specs.Run.{KeepsAccesses, ReadsByInstruction, Terms as RunTerms}
 use Rattle.chip_run.specs.declared.RunRecord.{RunRecord}
 use Rattle.chip_device.specs.Buses.{IsBusOf, IsSameKind, WentOver, kind_told, run_history}
 use Rattle.chip_device.specs.declared.run_bus.RunBus.{RunBus}
@@ -66,10 +66,10 @@ still_of None (Script old) new accesses is same = absurd is
 still_of (Some script) (Honest old) new accesses is same = absurd is
 
 -- what a run on a new bus tells of its accesses, by the terms that it was asked on
-pub went_over : (terms asked : RunTerms) (run : RunRecord) (old new : RunBus) → terms.tag_of ≡ asked.tag_of → terms.geometry ≡ asked.geometry →
-    run_history old ≡ new_history asked.geometry → (accesses : List Access) × IsSameKind old accesses new × KeepsAccesses terms accesses run →
+pub went_over : (terms asked : RunTerms) (run : RunRecord) (old new : RunBus) → terms.start ≡ asked.start → terms.tag_of ≡ asked.tag_of → terms.geometry ≡ asked.geometry →
+    run_history old ≡ new_history asked.geometry → (accesses : List Access) × IsSameKind old accesses new × KeepsAccesses terms (run_history new) accesses run →
     WentOver asked run new
-went_over terms asked run old new tags geometry begins told =
+went_over terms asked run old new starts tags geometry begins told =
     let accesses : List Access = told.0 in
     let keeps = told.2 in
     record {
@@ -84,5 +84,6 @@ went_over terms asked run old new tags geometry begins told =
         inside = subst (λ (shape : GeometryView). AreOf (IsPlace shape) accesses) geometry keeps.inside;
         shown = keeps.shown;
         tampered = keeps.tampered;
+        by_instruction = λ quiet counted. subst (λ (start : Machine). ReadsByInstruction start accesses run) starts (keeps.by_instruction quiet counted);
       };
     }

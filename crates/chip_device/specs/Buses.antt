@@ -66,7 +66,7 @@ IsBusOf (Some script) (Honest bus) = ⊥
 pub record WentOver (terms : Terms) (run : RunRecord) (bus : RunBus) : Type 0 where
   pub accesses : List Access
   pub came : CameBy (new_history terms.geometry) accesses (run_history bus)
-  pub keeps : KeepsAccesses terms accesses run
+  pub keeps : KeepsAccesses terms (run_history bus) accesses run
 
 -- False answers come of the script: there is none where it has no line, and the first is about a place that the action
 -- of some line may change.

@@ -40,6 +40,7 @@ pub fn run_on_device<O: Sink>(
 
     // The writes of its bus are the messages of the run, in order.
     ensures accesses { (program : Program) →
+        IsImageOf (memory_size asked.now.execution.file.geometry) program image.now →
         IfOk result (λ done. WentOver (terms_of (run_asked asked.now) program input.now) done.0
         done.1) }
 

@@ -85,7 +85,7 @@ fn run_by_default(
         (gathered printed.new)
         (new_history (one 4)) (run_history done.1) done.0) }
     ensures bus { IfOk result (λ done. IsBusOf None done.1) }
-    ensures accesses { (program : Program) →
+    ensures accesses { (program : Program) → IsImageOf (memory_size (one 4)) program image.now →
         IfOk result (λ done. WentOver (terms_of generated_run program []) done.0 done.1) }
 {
     let default = default_run("");

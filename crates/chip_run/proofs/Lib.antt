@@ -1,6 +1,7 @@
 pub mod TurnoverCases
 pub mod Closing
 pub mod Ends
+pub mod Pieces
 pub mod Memories
 pub mod Turned
 pub mod Reports

@@ -33,6 +33,7 @@ use Rattle.chip_run.specs.Run.{KeepsAccesses, Terms}
 use Rattle.chip_run.specs.declared.record.RunRecord.{RunRecord}
 use Rattle.bonsai_tree.proofs.MadeSlots.{slots_none}
 use Rattle.chip_run.proofs.Ends.{OfMemory}
+use Rattle.chip_run.proofs.Pieces.{none_retired}
 
 -- The false answers are accounted for as it begins
 
@@ -124,8 +125,9 @@ no_memory_run terms bus run as_many honest empty ended none_made none_used none 
     })
 
 -- it made no access
-pub no_accesses : (terms : Terms) (run : RunRecord) → run.ending ≡ NoMemory → run.made ≡ [] → run.evidence ≡ None → KeepsAccesses terms [] run
-no_accesses terms run ended none_made none = record {
+pub no_accesses : (terms : Terms) (bus : BusHistory) (run : RunRecord) → run.retired ≡ 0 → run.ending ≡ NoMemory → run.made ≡ [] → run.evidence ≡ None →
+    KeepsAccesses terms bus [] run
+no_accesses terms bus run retired ended none_made none = record {
   written = [];
   unwritten = [];
   made = none_made;
@@ -134,6 +136,7 @@ no_accesses terms run ended none_made none = record {
   inside = tt;
   shown = λ evidence is. absurd (cc);
   tampered = λ place is. absurd (cc);
+  by_instruction = λ quiet counted. none_retired terms.start [] run retired;
 }
 
 -- A run that had a memory

@@ -1,32 +1,36 @@
 -- What a program came to that ran on protected memory, from how it began and what it hands out.
-use Rattle.std.proofs.Common.{◌≡◌, ◌<◌, ℕ, List, [], ◌++◌, length, map, Some, None, refl, sym, ap, ◌∙◌, subst, arith}
+use Rattle.std.proofs.Common.{◌≡◌, inl, inr, ◌<◌, ℕ, List, [], ◌++◌, length, map, Option, Some, None, refl, sym, ap, ◌∙◌, subst, arith}
 use Rattle.sec_base.specs.Geometry.{GeometryView, line_count}
 use Rattle.sec_base.specs.Place.{IsPlace}
 use Rattle.sec_base.specs.declared.ending.Ending.{Ending}
 use Rattle.sec_base.specs.declared.message.Message.{Message}
-use Rattle.bus_model.specs.Access.{Access, AreOf}
+use Rattle.sec_base.specs.declared.stop.MemStop.{MemStop}
+use Rattle.sec_base.proofs.Results.{some_or_none, was_none}
+use Rattle.bus_model.specs.Access.{Access, AreOf, CameBy}
 use Rattle.bus_model.specs.BusHistory.{BusHistory}
 use Rattle.tag_engine.specs.Tag.{engine_tag}
 use Rattle.tag_engine.specs.TagEngine.{tags_of}
-use Rattle.checked_bus.specs.Makes.{IsShownIn, access_of}
+use Rattle.checked_bus.specs.Makes.{HasAccesses, IsShownIn, MakesAccesses, access_of}
 use Rattle.rv32_core.specs.Machine.{Machine, plain}
 use Rattle.rv32_core.specs.State.{CoreView}
 use Rattle.rv32_run.specs.Execution.{CarriesEnding, FollowsWith}
 use Rattle.rv32_run.specs.ExecutionView.{ExecutionView}
 use Rattle.rv32_run.specs.Progress.{StandsWith}
+use Rattle.rv32_run.specs.Trail.{IsTrail}
 use Rattle.counter_cache.specs.Counters.{most_blocks}
 use Rattle.line_cache.specs.LineCache.{most_held}
-use Rattle.page_reencrypt.specs.SealedLines.{IsLineOf, Moves, geometry}
+use Rattle.page_reencrypt.specs.SealedLines.{geometry}
 use Rattle.page_reencrypt.specs.Stops.{lasting_stop}
-use Rattle.secure_memory.specs.SecureRam.{IsMoved, IsQuiet, SecureRamView, cached_pages, contents, held_lines, stopped}
+use Rattle.secure_memory.specs.SecureRam.{IsMoved, IsQuiet, SecureRamView, cached_pages, contents, evidence, held_lines, stopped}
 use Rattle.secure_memory.specs.Moving.{moved_on}
 use Rattle.checked_bus.proofs.Makes.{same_tags}
-use Rattle.chip_run.specs.Run.{KeepsAccesses, RanProtected, Terms}
+use Rattle.chip_run.specs.Run.{AreCounted, KeepsAccesses, RanProtected, ReadsByInstruction, Terms}
 use Rattle.chip_run.specs.Running.{HandsOut, HasRunTo, HasStored, protected_by}
 use Rattle.chip_run.specs.declared.record.RunRecord.{RunRecord}
 use Rattle.chip_run.proofs.Closing.{stopped_tampered, unwritten_most}
 use Rattle.chip_run.proofs.Ends.{OfInstructions, OfMemory, ReadsTurnover, ran_protected}
 use Rattle.chip_run.proofs.Memories.{run_contents, run_memory, run_reads}
+use Rattle.chip_run.proofs.Pieces.{along, begins, none_retired, with_rest}
 use Rattle.chip_run.proofs.Runs.{ran_instructions}
 use Rattle.chip_run.proofs.Turned.{IsBooted, few_begun, run_turned}
 
@@ -62,12 +66,13 @@ module _ {B T : Type 0} (d n : T → List ℕ → List ℕ) (history : B → Bus
       ∙ ap (λ (g : GeometryView). engine_tag (d tagger) (n tagger) g) stored.new.geometry_is ∙ sym stored.tags
 
   -- the accesses of its bus, and what the lists say of them
-  pub stored_accesses : (memory last : SecureRamView B T) (closed : B) (run : RunRecord) (stored : HasStored d n history bus_moved bus tagger terms memory) →
-      Moves history bus_moved (tags_of d n) (IsLineOf stored.booted.lines) stored.booted.lines last.lines → HandsOut d n history last closed run →
-      CarriesEnding (stopped last) (Some run.ending) → (accesses : List Access) × bus_moved bus accesses closed × KeepsAccesses terms accesses run
-  stored_accesses memory last closed run stored moves out carries =
+  kept_accesses : (memory last : SecureRamView B T) (closed : B) (run : RunRecord) (stored : HasStored d n history bus_moved bus tagger terms memory) →
+      (makes : MakesAccesses bus_moved (tags_of d n stored.booted.lines.engine) stored.booted.lines.bus stored.booted.lines.engine last.lines.bus last.lines.engine last.lines.stopped) →
+      HandsOut d n history last closed run → CarriesEnding (stopped last) (Some run.ending) →
+      (run.evidence ≡ None → AreCounted (history closed) → ReadsByInstruction terms.start makes.accesses run) →
+      (accesses : List Access) × bus_moved bus accesses closed × KeepsAccesses terms (history closed) accesses run
+  kept_accesses memory last closed run stored makes out carries reads =
       let new = stored.new in
-      let makes = moves.trace (ap lasting_stop new.going) in
       let has = makes.has in
       let accesses : List Access = makes.accesses in (
         accesses,
@@ -85,8 +90,17 @@ module _ {B T : Type 0} (d n : T → List ℕ → List ℕ) (history : B → Bus
           shown = λ evidence is. subst (λ (made : List Message). IsShownIn (length made) accesses evidence) new.unmade
               (has.shown evidence new.quiet (sym out.evidence_is ∙ is));
           tampered = λ place is. has.tampered place (stopped_tampered (stopped last) run.ending place carries is);
+          by_instruction = reads;
         },
       )
+
+  -- of a memory that stopped before the first instruction
+  pub stored_accesses : (memory : SecureRamView B T) (closed : B) (run : RunRecord) (stored : HasStored d n history bus_moved bus tagger terms memory) →
+      HandsOut d n history memory closed run → CarriesEnding (stopped memory) (Some run.ending) → run.retired ≡ 0 →
+      (accesses : List Access) × bus_moved bus accesses closed × KeepsAccesses terms (history closed) accesses run
+  stored_accesses memory closed run stored out carries retired =
+      let makes = stored.stored.moves.trace (ap lasting_stop stored.new.going) in
+      kept_accesses memory memory closed run stored makes out carries (λ quiet counted. none_retired terms.start makes.accesses run retired)
 
   -- few lines and counter blocks have copies in it, and what stands outside fits them
   stored_booted : (memory : SecureRamView B T) → HasStored d n history bus_moved bus tagger terms memory → IsBooted history bus_moved (tags_of d n) terms.geometry memory
@@ -102,7 +116,7 @@ module _ {B T : Type 0} (d n : T → List ℕ → List ℕ) (history : B → Bus
       (now : ExecutionView P (SecureRamView B T)) (closed : B) (run : RunRecord) (went : HasRunTo core d n history bus_moved bus tagger terms printed ending now)
       (out : HandsOut d n history now.memory closed run) (retired_is : run.retired ≡ now.retired) (ending_is : run.ending ≡ ending) where
     -- what the run made of its memory
-    pub ran_moved : IsMoved history bus_moved (tags_of d n) went.begun.stored.booted (went.begun.stored.lines ++ went.ended.moved.lines) now.memory
+    ran_moved : IsMoved history bus_moved (tags_of d n) went.begun.stored.booted (went.begun.stored.lines ++ went.ended.moved.lines) now.memory
     ran_moved =
         moved_on history bus_moved (tags_of d n) (same_tags d n) bus_moved_on went.begun.stored.booted went.first.memory now.memory
         went.begun.stored.lines went.ended.moved.lines went.begun.stored.stored went.ended.moved.moved
@@ -143,10 +157,43 @@ module _ {B T : Type 0} (d n : T → List ℕ → List ℕ) (history : B → Bus
         went.begun.stored.new ran_moved.moves run now.memory.ways out.made_is)
         out.few_held went.ended.within went.ended.budget_used went.ended.early follows turned
 
-    pub carries : CarriesEnding (stopped now.memory) (Some run.ending)
+    carries : CarriesEnding (stopped now.memory) (Some run.ending)
     carries = subst (λ (e : Ending). CarriesEnding (stopped now.memory) (Some e)) (sym ending_is) went.ended.carries
 
     pub ran : (history bus).lies ≡ 0 → RanProtected (λ line. line < line_count terms.geometry) terms printed (history bus) (history closed) run
     ran honest =
         ran_protected terms printed (history bus) (history closed) run
         (stored_memory (went.begun.stored.lines ++ went.ended.moved.lines) went.first.memory now.memory closed run went.begun.stored ran_moved out honest carries) instructions
+
+    -- What the run accessed: by instructions where there is no evidence
+    module _ (told : (old new : B) (accesses : List Access) → bus_moved old accesses new → CameBy (history old) accesses (history new)) where
+      by_instructions : run.evidence ≡ None → (accesses : List Access) × bus_moved bus accesses closed × KeepsAccesses terms (history closed) accesses run
+      by_instructions quiet =
+          let stored = went.begun.stored in
+          let first = went.first.memory in
+          let engine = stored.booted.lines.engine in
+          let sound = sound_to_end quiet in
+          let trail = went.ended.trail sound terms.start [] (begun_there sound) in
+          let sooner = stored.stored.moves.trace (ap lasting_stop stored.new.going) in
+          let has : HasAccesses (tags_of d n engine) engine first.lines.engine sooner.accesses None =
+          subst (λ (stop : Option MemStop). HasAccesses (tags_of d n engine) engine first.lines.engine sooner.accesses stop) went.begun.going sooner.has in
+          let all =
+          along d n history bus_moved bus_moved_on told terms.start stored.booted stored.new.unmade sooner.accesses trail.count first trail.last
+          (begins d n history bus_moved bus_moved_on told terms.start stored.booted stored.new.unmade sooner.accesses first went.begun.going
+          (begins_with terms.start _ went.first.retired (begun_there sound) went.begun.none_retired)
+          stored.stored.moves.step.geometry stored.stored.moves.step.tagger sooner.moved has (stored_booted first stored).few)
+          (was_none (evidence trail.last) (evidence now.memory) trail.rest.moves.step.evidence sound)
+          (subst (λ (from : ℕ). IsTrail (λ m. stopped m) (λ m. contents m) (λ a xs b. IsMoved history bus_moved (tags_of d n) a xs b) terms.start from trail.count first trail.last)
+          went.begun.none_retired trail.trail) in
+          let whole =
+          with_rest d n history bus_moved bus_moved_on told terms.start stored.booted stored.new.unmade sooner.accesses trail.count trail.last now.memory trail.lines run
+          all trail.rest (omega (arith, retired_is, went.begun.none_retired, trail.counted)) in
+          kept_accesses first now.memory closed run stored whole.0 out carries (λ none counted. whole.1 (subst (λ (b : B). AreCounted (history b)) out.bus_is counted))
+
+      pub ran_accesses : (accesses : List Access) × bus_moved bus accesses closed × KeepsAccesses terms (history closed) accesses run
+      ran_accesses = elim (some_or_none run.evidence) [
+        | inl quiet ↦ by_instructions quiet
+        | inr shown ↦
+            let makes = ran_moved.moves.trace (ap lasting_stop went.begun.stored.new.going) in
+            kept_accesses went.first.memory now.memory closed run went.begun.stored makes out carries (λ quiet counted. let is = shown.1 in absurd (cc))
+      ]

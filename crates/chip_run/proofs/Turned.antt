@@ -37,7 +37,7 @@ use Rattle.page_reencrypt.specs.Stops.{lasting_stop}
 use Rattle.page_reencrypt.proofs.RisingPairs.{last_none}
 use Rattle.page_reencrypt.proofs.Sealing.{listed_or_not}
 use Rattle.cache_set.specs.declared.way.Way.{Way}
-use Rattle.cache_set.specs.Cache.{places, way_at}
+use Rattle.cache_set.specs.Cache.{way_at}
 use Rattle.line_cache.specs.LineCache.{contents_over, most_held}
 use Rattle.line_cache.specs.Moving.{length-contents_over}
 use Rattle.line_cache.proofs.Lines.{over_unheld}
@@ -50,13 +50,20 @@ use Rattle.chip_run.proofs.TurnoverCases.{turned_by_none}
 past_is_blank : (contents : List ℕ) (line : ℕ) → length contents ≤ 64 * line → is_old contents line ≡ false
 past_is_blank contents line past = ap (λ (rest : List ℕ). list_any (λ byte. not (nat_eq byte 0)) (take 64 rest)) (drop_all (64 * line) contents past)
 
-untagged_is_blank : (key : List ℕ) (lines : ℕ) (made : List Message) (ways : List (List Way)) (line : ℕ) → line < lines → ¬ Contains (places ways) line → last_data line made ≡ None →
-    is_old (contents_over (contents_of key lines made) lines ways) line ≡ false
-untagged_is_blank key lines made ways line inside unheld none =
-    let there : line_at (contents_over (contents_of key lines made) lines ways) line ≡ bytes_of key line None =
-    over_unheld (contents_of key lines made) lines ways line (length-contents_of key lines made) inside (unheld_none ways line unheld)
-    ∙ line_at-joined_lines (line_bytes key made) lines line (length-line_bytes key made) inside ∙ ap (bytes_of key line) none in
-    ap (list_any (λ byte. not (nat_eq byte 0))) there
+pub untagged_is_blank : {B T : Type 0} (memory : SecureRamView B T) (line : ℕ) → ¬ Contains (held_lines memory) line → last_data line (made memory) ≡ None →
+    is_old (contents memory) line ≡ false
+untagged_is_blank memory line unheld none =
+    let key = enc_key memory.lines in
+    let lines = lines_of memory in
+    let stored = contents_of key lines (made memory) in
+    elim (cases_lt line lines) [
+      | inl inside ↦
+          let there : line_at (contents_over stored lines memory.ways) line ≡ bytes_of key line None =
+          over_unheld stored lines memory.ways line (length-contents_of key lines (made memory)) inside (unheld_none memory.ways line unheld)
+          ∙ line_at-joined_lines (line_bytes key (made memory)) lines line (length-line_bytes key (made memory)) inside ∙ ap (bytes_of key line) none in
+          ap (list_any (λ byte. not (nat_eq byte 0))) there
+      | inr past ↦ past_is_blank (contents_over stored lines memory.ways) line (omega (arith, past, length-contents_over stored lines memory.ways))
+    ]
 
 old_is_inside : (stored : List ℕ) (lines : ℕ) (ways : List (List Way)) (line : ℕ) → is_old (contents_over stored lines ways) line ≡ true → line < lines
 old_is_inside stored lines ways line old =
@@ -90,9 +97,7 @@ old_was_had history bus_moved tags old new lines line moved going quiet listed i
         | inl never ↦
             elim (listed_or_not (held_lines old) line) [
               | inl held ↦ inl held
-              | inr unheld ↦
-                  let inside = old_is_inside (line_contents old.lines) (lines_of old) old.ways line is in
-                  absurd (false≢true (sym (untagged_is_blank (enc_key old.lines) (lines_of old) (made old) old.ways line inside unheld never) ∙ is))
+              | inr unheld ↦ absurd (false≢true (sym (untagged_is_blank old line unheld never) ∙ is))
             ]
         | inr rose ↦ inr rose
       ]
@@ -122,7 +127,7 @@ unmade_is_blank tag_of history memory line fits inside never away =
     let unwritten : counter_in (used memory) line ≡ never_written =
     fits.current (page_of line) (omega (arith, inside)) line refl
     ∙ ap (λ (block : List ℕ). counter_of (place_of line) (block_of block)) zeros ∙ zeros_say line in
-    untagged_is_blank (enc_key memory.lines) (lines_of memory) (made memory) memory.ways line inside unheld
+    untagged_is_blank memory line unheld
     (last_none (lines_of memory) (made memory) (used memory) line fits.paired inside ((fits.fresh line).0 unwritten))
 
 -- of the page of an old line something was on the chip, or its counter block was read

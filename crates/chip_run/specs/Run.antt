@@ -1,5 +1,6 @@
 -- What a run on protected memory comes to.
-use Rattle.std.specs.Prelude.{◌≡◌, ◌≢◌, ◌+◌, ◌-◌, ◌^◌, ◌<◌, ◌≤◌, ◌↔◌, ◌⊎◌, ◌++◌, ℕ, List, None, Some, IfSome, length, map, Contains}
+use Rattle.std.specs.Prelude.{◌≡◌, ◌≢◌, ◌+◌, ◌-◌, ◌^◌, ◌<◌, ◌≤◌, ◌↔◌, ◌⊎◌, ◌++◌, ℕ, false, List, [], None, Some, IfSome, length, map, slice_index_or, take, Contains}
+use Rattle.std.specs.List.{flat_map}
 use Rattle.sha2.specs.Sha256.{sha256}
 use Rattle.sec_base.specs.declared.counter.Counter.{Counter}
 use Rattle.sec_base.specs.declared.ending.Ending.{Ending}
@@ -9,6 +10,7 @@ use Rattle.sec_base.specs.declared.image.Image.{Image}
 use Rattle.sec_base.specs.declared.message.Message.{Message}
 use Rattle.sec_base.specs.declared.place.Place.{Place}
 use Rattle.sec_base.specs.declared.place.Place.TheVariants.{Line, Node}
+use Rattle.sec_base.specs.Count.{top}
 use Rattle.sec_base.specs.Evidence.{IsEvidence}
 use Rattle.sec_base.specs.Gain.{Gain}
 use Rattle.sec_base.specs.Geometry.{GeometryView, line_count, page_count}
@@ -16,14 +18,15 @@ use Rattle.sec_base.specs.LastMessage.{data_pairs}
 use Rattle.sec_base.specs.Lines.{line_at}
 use Rattle.sec_base.specs.Place.{IsPlace}
 use Rattle.sec_base.specs.Sink.{SinkState}
-use Rattle.bus_model.specs.Access.{Access, AreOf, EndsWithRead, writes_in}
+use Rattle.bus_model.specs.Access.{Access, AreOf, EndsWithRead, reads_of, writes_in}
 use Rattle.bus_model.specs.BusHistory.{BusHistory}
 use Rattle.bus_model.specs.FirstLie.{HonestOrCaught, IsOfFirstLie}
 use Rattle.pad_stream.specs.PadBlocks.{ShareNoBlock}
 use Rattle.pad_stream.specs.Pads.{AreRising, NoRepeat, of_lines}
 use Rattle.rv32_core.specs.Follows.{Follows, IsWhole}
 use Rattle.rv32_core.specs.Machine.{Machine, opening, plain}
-use Rattle.rv32_core.specs.Turnover.{page_turnover, turnover}
+use Rattle.rv32_core.specs.TouchedLines.{touched_lines}
+use Rattle.rv32_core.specs.Turnover.{is_old, page_turnover, turnover}
 use Rattle.rv32_run.specs.Execution.{IsMemoryEnding, IsStop}
 use Rattle.rv32_run.specs.Progress.{SinkEnds}
 use Rattle.elf_load.specs.Measurement.{measurement_of}
@@ -108,9 +111,46 @@ pub record KeepsLists (allowed : ℕ → Type 0) (terms : Terms) (after : BusHis
   pub holds_last : run.ending ≢ NoMemory → HoldsLast terms.tag_of (line_count terms.geometry) run.made after.written
   pub nodes_hold_last : run.ending ≢ NoMemory → NodesHoldLast terms.geometry run.made after.written
 
+-- none of these accesses wrote to a place
+abbrev pub IsUnwritten : Place → List Access → Type 0
+IsUnwritten place accesses = AreOf (λ other. other ≢ place) (writes_in accesses)
+
+-- the accesses of all pieces, in order
+abbrev pub joined : List (List Access) → List Access
+joined pieces = flat_map (λ piece. piece) pieces
+
+-- A line was had for the instruction after so many: it was held before it, its place was read among the accesses of that
+-- instruction, or nothing was written to its place before, and it is zeros in the plain machine's memory before that instruction.
+abbrev pub IsHadFor : Machine → List Access → List (List Access) → (ℕ → List ℕ) → ℕ → ℕ → Type 0
+IsHadFor start stored pieces held count line = Contains (held count) line
+    ⊎ ((0 < reads_of (Line line) (slice_index_or pieces count []))
+    ⊎ (IsUnwritten (Line line) (stored ++ joined (take count pieces)) × (is_old (plain start count).state.memory line ≡ false)))
+
+-- Refused: a run that doesn't read the lines of an instruction for it. The accesses are those that stored the image, those of each
+-- retired instruction, and those of the one that came to no end.
+pub record ReadsByInstruction (start : Machine) (accesses : List Access) (run : RunRecord) : Type 0 where
+  pub stored : List Access
+  pub pieces : List (List Access)
+  pub last : List Access
+  pub all : accesses ≡ stored ++ (joined pieces ++ last)
+  pub each : length pieces ≡ run.retired
+  -- Some lines, at most 128, are held at each time; these, once so many instructions were retired.
+  pub held : ℕ → List ℕ
+  pub few : (count : ℕ) → count ≤ run.retired → length (held count) ≤ most_left
+  -- Each line that an instruction touches, or that is among the held ones after it, was held before it, or its place was read for
+  -- it, or nothing was written to its place before and it is zeros.
+  pub touched : (count line : ℕ) → count < run.retired → Contains (touched_lines (plain start count).state) line →
+      IsHadFor start stored pieces held count line
+  pub kept : (count line : ℕ) → count < run.retired → Contains (held (count + 1)) line →
+      IsHadFor start stored pieces held count line
+
+-- no line's place was read as often as a count can say
+abbrev pub AreCounted : BusHistory → Type 0
+AreCounted history = (line : ℕ) → history.reads (Line line) < top
+
 -- Refused: a list of messages that is not what was written to the bus, one by one. The accesses are all that the run made of its
 -- bus, in order.
-pub record KeepsAccesses (terms : Terms) (accesses : List Access) (run : RunRecord) : Type 0 where
+pub record KeepsAccesses (terms : Terms) (after : BusHistory) (accesses : List Access) (run : RunRecord) : Type 0 where
   -- each write puts out one message, in order: a line's ciphertext with its tag, or a node's block, whose tag goes into its
   -- parent; where the run ended out of memory, the last message may not have been written
   pub written : List Message
@@ -125,6 +165,8 @@ pub record KeepsAccesses (terms : Terms) (accesses : List Access) (run : RunReco
   pub shown : (evidence : Evidence) → run.evidence ≡ Some evidence → IsShownIn 0 accesses evidence
   -- a run that ended as tampering read that place last, also where there is evidence
   pub tampered : (place : Place) → run.ending ≡ Tampered place → EndsWithRead place accesses
+  -- where there is no evidence, and as far as counts of reads go, the lines of each instruction were held, or read for it, or zeros
+  pub by_instruction : run.evidence ≡ None → AreCounted after → ReadsByInstruction terms.start accesses run
 
 -- the endings that come of the sink or of the emulator
 abbrev pub IsCutOff : Ending → Type 0

@@ -1,6 +1,6 @@
 -- A program that runs on protected memory: how it began, how far it came, and what it hands out. Contracts of private
 -- functions and proofs alone cite it.
-use Rattle.std.specs.Prelude.{◌≡◌, ◌*◌, ◌^◌, ◌<◌, ◌≤◌, ℕ, List, [], length}
+use Rattle.std.specs.Prelude.{◌≡◌, ◌*◌, ◌^◌, ◌<◌, ◌≤◌, ℕ, List, [], length, None}
 use Rattle.sec_base.specs.declared.ending.Ending.{Ending}
 use Rattle.bus_model.specs.Access.{Access}
 use Rattle.bus_model.specs.BusHistory.{BusHistory}
@@ -38,6 +38,7 @@ pub record HasStored {B T : Type 0} (data_tag node_tag : T → List ℕ → List
 pub record HasBegun {P B T : Type 0} (core : P → CoreView) (data_tag node_tag : T → List ℕ → List ℕ) (history : B → BusHistory)
     (bus_moved : B → List Access → B → Type 0) (bus : B) (tagger : T) (terms : Terms) (first : ExecutionView P (SecureRamView B T)) : Type 0 where
   pub stored : HasStored data_tag node_tag history bus_moved bus tagger terms first.memory
+  pub going : stopped first.memory ≡ None
   pub stands : IsQuiet first.memory → StandsWith (protected_by core data_tag node_tag history bus_moved) terms.start first []
   pub none_retired : first.retired ≡ 0
   pub budget : first.budget ≡ terms.budget

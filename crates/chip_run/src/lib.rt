@@ -49,8 +49,8 @@ pub fn run<B: Bus, T: Tagger, S: Sink>(
     // Some accesses led from the bus that was given to the one handed back; their writes are the run's messages, one by one.
     ensures accesses { (accesses : List Access) × B.moved bus accesses result.1
         × KeepsAccesses (run_terms image.now input.now setup.now
-        (engine_tag (T.data_tag_of tagger) (T.node_tag_of tagger) setup.now.geometry)) accesses
-        result.0 }
+        (engine_tag (T.data_tag_of tagger) (T.node_tag_of tagger) setup.now.geometry))
+        (B.history result.1) accesses result.0 }
 {
     let mut running = match Running::boot(alloc, image, input, setup, tagger, bus) {
         Ok(running) => running,

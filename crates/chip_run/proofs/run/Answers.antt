@@ -12,7 +12,7 @@ use Rattle.chip_run.specs.Running.{HasRunTo, protected_by}
 use Rattle.chip_run.proofs.Closing.{ends_as_stop}
 use Rattle.chip_run.proofs.Memories.{no_accesses}
 use Rattle.chip_run.proofs.Outcomes.{boot_refused, storing_stopped}
-use Rattle.chip_run.proofs.Ran.{carries, ran, ran_moved, stored_accesses, stored_memory}
+use Rattle.chip_run.proofs.Ran.{ran, ran_accesses, stored_accesses, stored_memory}
 use Rattle.chip_run.proofs.Reports.{report_is}
 use Rattle.chip_run.proofs.run.Given.{Over}
 use Rattle.chip_run.proofs.run.Goals as goal
@@ -34,7 +34,7 @@ returns-in-Err-NoMemory-clause-accesses g c =
     let same = c.in-Err-NoMemory.ensures.no_memory left (ap (λ f. Err f) c.in-Err-NoMemory.field-0-is) in (
       [],
       subst (λ (bus : g.row.B.Denot). g.B.Bus.moved c.args.bus [] bus) (sym same) (g.met.B.Bus.unmoved c.args.bus),
-      no_accesses _ c.no_run.result run.ending run.made run.evidence,
+      no_accesses _ _ c.no_run.result run.retired run.ending run.made run.evidence,
     )
 
 pub returns-in-Err-Stopped-clause-run : goal.returns-in-Err-Stopped-clause-run
@@ -60,8 +60,8 @@ returns-in-Err-Stopped-clause-accesses g c =
     let stop = c.in-Err-Stopped.stop in
     let failed = c.in-Err-Stopped.ensures.stopped memory stop (ap (λ f. Err f) c.in-Err-Stopped.field-0-is) in
     stored_accesses g.T.Tagger.data_tag_of g.T.Tagger.node_tag_of g.B.Bus.history g.B.Bus.moved g.met.B.Bus.moved_on c.args.bus c.args.tagger _
-    memory memory c.close.result.1 c.close.result.0 failed.0 failed.0.stored.moves c.close.ensures.hands_out
-    (ends_as_stop _ stop c.close.result.0.ending failed.1 (c.close.ensures.ending ∙ c.ending_of-ending.ensures))
+    memory c.close.result.1 c.close.result.0 failed.0 c.close.ensures.hands_out
+    (ends_as_stop _ stop c.close.result.0.ending failed.1 (c.close.ensures.ending ∙ c.ending_of-ending.ensures)) c.close.ensures.retired
 
 -- it ran to its end
 went : (g : Over) (c : goal.After-close-2 g) → HasRunTo (λ core. core) g.T.Tagger.data_tag_of g.T.Tagger.node_tag_of g.B.Bus.history g.B.Bus.moved c.args.bus c.args.tagger
@@ -95,11 +95,6 @@ returns-clause-run g c =
 pub returns-clause-accesses : goal.returns-clause-accesses
 returns-clause-accesses g c =
     let closed = c.close-2.ensures in
-    let ended = went g c in
-    stored_accesses g.T.Tagger.data_tag_of g.T.Tagger.node_tag_of g.B.Bus.history g.B.Bus.moved g.met.B.Bus.moved_on c.args.bus c.args.tagger _
-    ended.first.memory c.finish-ending.new.self.memory c.close-2.result.1 c.close-2.result.0 ended.begun.stored
-    (ran_moved g.T.Tagger.data_tag_of g.T.Tagger.node_tag_of g.B.Bus.history g.B.Bus.moved g.met.B.Bus.moved_on c.args.bus c.args.tagger _ (λ core. core) g.met.B.Bus.unmoved
-    c.finish-ending.ensures.ended.printed c.finish-ending.result c.finish-ending.new.self c.close-2.result.1 c.close-2.result.0 ended closed.hands_out closed.retired closed.ending).moves
-    closed.hands_out
-    (carries g.T.Tagger.data_tag_of g.T.Tagger.node_tag_of g.B.Bus.history g.B.Bus.moved g.met.B.Bus.moved_on c.args.bus c.args.tagger _ (λ core. core) g.met.B.Bus.unmoved
-    c.finish-ending.ensures.ended.printed c.finish-ending.result c.finish-ending.new.self c.close-2.result.1 c.close-2.result.0 ended closed.hands_out closed.retired closed.ending)
+    ran_accesses g.T.Tagger.data_tag_of g.T.Tagger.node_tag_of g.B.Bus.history g.B.Bus.moved g.met.B.Bus.moved_on c.args.bus c.args.tagger _ (λ core. core) g.met.B.Bus.unmoved
+    c.finish-ending.ensures.ended.printed c.finish-ending.result c.finish-ending.new.self c.close-2.result.1 c.close-2.result.0 (went g c) closed.hands_out closed.retired closed.ending
+    g.met.B.Bus.told

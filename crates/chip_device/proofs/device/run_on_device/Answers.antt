@@ -32,11 +32,13 @@ pub returns-in-Xor-clause-bus : goal.returns-in-Xor-clause-bus
 returns-in-Xor-clause-bus g c = still_of c.args.script c.in_ok-bus.bus c.run-in-Xor.result.1 c.run-in-Xor.ensures.accesses.0 c.in_ok-bus.ensures.script c.run-in-Xor.ensures.accesses.1
 
 pub returns-in-Hmac-clause-accesses : goal.returns-in-Hmac-clause-accesses
-returns-in-Hmac-clause-accesses g c = λ program.
+returns-in-Hmac-clause-accesses g c = λ program flat.
+    let opens = opening_is c.args.asked.now.execution.file.geometry program c.args.input.now c.args.image.now flat in
     let tags = hmac_tag_is c.args.asked.now.terms c.new-tagger.result c.derive-keys.result c.args.asked.now.execution.file.geometry c.in-Hmac.is c.new-tagger.ensures c.derive-keys.ensures in
-    went_over _ _ c.run.result.0 c.in_ok-bus.bus c.run.result.1 tags refl c.in_ok-bus.ensures.history c.run.ensures.accesses
+    went_over _ _ c.run.result.0 c.in_ok-bus.bus c.run.result.1 opens tags refl c.in_ok-bus.ensures.history c.run.ensures.accesses
 
 pub returns-in-Xor-clause-accesses : goal.returns-in-Xor-clause-accesses
-returns-in-Xor-clause-accesses g c = λ program.
+returns-in-Xor-clause-accesses g c = λ program flat.
+    let opens = opening_is c.args.asked.now.execution.file.geometry program c.args.input.now c.args.image.now flat in
     let tags = xor_tag_is c.args.asked.now.terms c.new-tagger-in-Xor.result c.derive-keys.result c.args.asked.now.execution.file.geometry c.in-Xor.is c.new-tagger-in-Xor.ensures c.derive-keys.ensures in
-    went_over _ _ c.run-in-Xor.result.0 c.in_ok-bus.bus c.run-in-Xor.result.1 tags refl c.in_ok-bus.ensures.history c.run-in-Xor.ensures.accesses
+    went_over _ _ c.run-in-Xor.result.0 c.in_ok-bus.bus c.run-in-Xor.result.1 opens tags refl c.in_ok-bus.ensures.history c.run-in-Xor.ensures.accesses

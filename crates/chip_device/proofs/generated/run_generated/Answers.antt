@@ -11,6 +11,6 @@ returns c =
         program_is = found.1;
         bus_is = c.in_ok-run.ensures.bus;
         runs = rw c.new-printed.ensures at (c.in_ok-run.ensures.ran found.0 found.2);
-        accesses = c.in_ok-run.ensures.accesses found.0;
+        accesses = c.in_ok-run.ensures.accesses found.0 found.2;
       };
     }

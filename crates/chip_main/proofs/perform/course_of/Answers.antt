@@ -29,7 +29,7 @@ returns-in_ok-run-in-Run-clause-came g c =
       reads = taken.2;
       bus_is = c.in_ok-run-in-Run.ensures.bus;
       runs = rw c.as_slice.ensures at (c.in_ok-run-in-Run.ensures.ran taken.0 taken.1);
-      accesses = rw c.as_slice.ensures at (c.in_ok-run-in-Run.ensures.accesses taken.0);
+      accesses = rw c.as_slice.ensures at (c.in_ok-run-in-Run.ensures.accesses taken.0 taken.1);
     })
 
 pub returns-in_ok-image-in-Plain-clause-came : goal.returns-in_ok-image-in-Plain-clause-came

@@ -42,6 +42,7 @@ returns-in-Ok-store_image-clause-begun g c =
               lines = storing.moved.lines;
               stored = storing.moved.moved;
             });
+        going = ap (λ memory. stopped memory) began.memory ∙ storing.goes_on;
         stands = λ sound.
             let quiet : IsQuiet c.store_image.new.ram = ap (λ (memory : SecureRamView g.row.B.Denot g.row.T.Denot). memory.lines.engine.evidence) (sym began.memory) ∙ sound in
             opening_begins image.entry image.size image.segments c.args.input.now execution.processor execution.calls.services (contents execution.memory) execution.retired
