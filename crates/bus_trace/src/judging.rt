@@ -40,8 +40,7 @@ pub(crate) struct Stand {
 
 /// Whether a trace's reads are true, but for a last one that ended its run as tampered, and the plain machine allows its
 /// retired count, its output and its ending, for this program on this input and within this budget; or how it first differs
-/// from that, in this order. Keys, tags and what was written are not checked. It runs the plain machine twice at most, and for
-/// one instruction more than the trace says at most. `NoMemory` may come at any trace.
+/// from that, in this order. Keys, tags and what was written are not checked. `NoMemory` may come at any trace.
 pub fn judge(alloc: Global, image: &Image, input: &[u8], budget: u64, trace: &Trace) -> Verdict
     ensures { IsVerdict (opening image.now input.now) budget trace.now result }
 {
