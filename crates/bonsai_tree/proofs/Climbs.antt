@@ -172,13 +172,13 @@ node_up geometry from more_from place up is = record {
 
 module _ {T : Type 0} (d n : T → List ℕ → List ℕ) where
   -- copies alone changed
-  pub climbs_recached : (from : ℕ) (tree tree' : TreeView) (history : BusHistory) (engine : TagEngineView T) → tree'.geometry ≡ tree.geometry → tree'.root ≡ tree.root →
+  pub climbs_recached : {from : ℕ} {tree tree' : TreeView} {history : BusHistory} {engine : TagEngineView T} → tree'.geometry ≡ tree.geometry → tree'.root ≡ tree.root →
       (AreNodeCaches tree.geometry tree.caches → AreNodeCaches tree'.geometry tree'.caches) →
       ((level : ℕ) → level < from → level_cache tree'.caches level ≡ level_cache tree.caches level) →
       (HoldsTree (tags_of d n) tree history engine → HoldsTree (tags_of d n) tree' history engine) →
       ((level index : ℕ) → cached_node tree' level index ≢ None → cached_node tree level index ≢ None) →
       Climbs (tags_of d n) from tree history engine tree' history engine None
-  climbs_recached from tree tree' history engine geometry root nodes copies holds held = record {
+  climbs_recached {from} {tree} {tree'} {history} {engine} geometry root nodes copies holds held = record {
     moves = moves_not history engine;
     lines = same_lines_not history engine.made;
     geometry = geometry;
@@ -206,15 +206,13 @@ module _ {T : Type 0} (d n : T → List ℕ → List ℕ) where
   }
 
   -- nothing was done
-  pub climbs_not : (from : ℕ) (tree : TreeView) (history : BusHistory) (engine : TagEngineView T) →
-      Climbs (tags_of d n) from tree history engine tree history engine None
-  climbs_not from tree history engine =
-      climbs_recached from tree tree history engine refl refl (λ are. are) (λ level low. refl) (λ was. was) (λ level index held. held)
+  pub climbs_not : {from : ℕ} {tree : TreeView} {history : BusHistory} {engine : TagEngineView T} → Climbs (tags_of d n) from tree history engine tree history engine None
+  climbs_not {from} {tree} {history} {engine} =
+      climbs_recached refl refl (λ are. are) (λ level low. refl) (λ was. was) (λ level index held. held)
 
   -- nor where there was no memory
-  pub climbs_refused : (from : ℕ) (tree : TreeView) (history : BusHistory) (engine : TagEngineView T) →
-      Climbs (tags_of d n) from tree history engine tree history engine (Some NoMemory)
-  climbs_refused from tree history engine = record {
+  pub climbs_refused : {from : ℕ} {tree : TreeView} {history : BusHistory} {engine : TagEngineView T} → Climbs (tags_of d n) from tree history engine tree history engine (Some NoMemory)
+  climbs_refused {from} {tree} {history} {engine} = record {
     moves = moves_not history engine;
     lines = same_lines_not history engine.made;
     geometry = refl;
@@ -242,9 +240,9 @@ module _ {T : Type 0} (d n : T → List ℕ → List ℕ) where
   }
 
   -- and of a level above
-  pub climbs_up : (from more_from : ℕ) (tree tree' : TreeView) (old new : BusHistory) (engine engine' : TagEngineView T) (stop : Option MemStop) → from ≤ more_from →
+  pub climbs_up : {from more_from : ℕ} {tree tree' : TreeView} {old new : BusHistory} {engine engine' : TagEngineView T} {stop : Option MemStop} → from ≤ more_from →
       Climbs (tags_of d n) more_from tree old engine tree' new engine' stop → Climbs (tags_of d n) from tree old engine tree' new engine' stop
-  climbs_up from more_from tree tree' old new engine engine' stop up climbs = record {
+  climbs_up {from} {more_from} {tree} {tree'} {old} {new} {engine} {engine'} {stop} up climbs = record {
     moves = climbs.moves;
     lines = climbs.lines;
     geometry = climbs.geometry;
@@ -272,10 +270,9 @@ module _ {T : Type 0} (d n : T → List ℕ → List ℕ) where
   }
 
   -- one call after another
-  pub climbs_on : (from : ℕ) (tree mid tree' : TreeView) (first second third : BusHistory) (engine engine' engine'' : TagEngineView T) (stop : Option MemStop) →
-      Climbs (tags_of d n) from tree first engine mid second engine' None → Climbs (tags_of d n) from mid second engine' tree' third engine'' stop →
+  pub climbs_on : {from : ℕ} {tree mid tree' : TreeView} {first second third : BusHistory} {engine engine' engine'' : TagEngineView T} {stop : Option MemStop} → Climbs (tags_of d n) from tree first engine mid second engine' None → Climbs (tags_of d n) from mid second engine' tree' third engine'' stop →
       Climbs (tags_of d n) from tree first engine tree' third engine'' stop
-  climbs_on from tree mid tree' first second third engine engine' engine'' stop climbs more =
+  climbs_on {from} {tree} {mid} {tree'} {first} {second} {third} {engine} {engine'} {engine''} {stop} climbs more =
       let tags : tags_of d n engine' ≡ tags_of d n engine = same_tags d n first second engine engine' climbs.moves in
       let moves : Moves first engine third engine'' = moves_on first second third engine engine' engine'' climbs.moves more.moves in
       let long : length moves.more ≡ length climbs.moves.more + length more.moves.more =

@@ -44,57 +44,49 @@ module _ {T : Type 0} (d n : T → List ℕ → List ℕ) where
       Climbs (tags_of d n) level tree history engine (tree_of root nodes') history engine None
   climbs_touched level tree root nodes nodes' history engine view_is geometry are others ways =
       let touched : TreeView = tree_of root nodes' in
-      let same : (other at : ℕ) → cached_node touched other at ≡ cached_node tree other at = all_as tree root nodes nodes' view_is ways in
-      let geometry_is : touched.geometry ≡ tree.geometry = geometry_as tree root nodes nodes' view_is geometry in
-      let root_is : touched.root ≡ tree.root = root_as tree root nodes nodes' view_is in
-      climbs_recached d n level tree touched history engine geometry_is root_is (λ were. are)
-      (λ other low. others_as tree root nodes nodes' view_is level others other (λ (e : other ≡ level). absurd (omega (arith, e, low))))
+      let same : (other at : ℕ) → cached_node touched other at ≡ cached_node tree other at = all_as root nodes nodes' view_is ways in
+      let geometry_is : touched.geometry ≡ tree.geometry = geometry_as root nodes nodes' view_is geometry in
+      let root_is : touched.root ≡ tree.root = root_as root nodes nodes' view_is in
+      climbs_recached d n geometry_is root_is (λ were. are)
+      (λ other low. others_as root nodes nodes' view_is level others other (λ (e : other ≡ level). absurd (omega (arith, e, low))))
       (λ was. record {
         fits = λ quiet.
             tree_recached (tags_of d n engine) tree touched engine.made history.written (was.fits quiet) geometry_is root_is
             (λ other at node. ap (λ (o : Option CachedNode). current_of o (last_node other at engine.made)) (same other at))
             (λ other at copy node found unchanged. (was.fits quiet).clean other at copy node (sym (same other at) ∙ found) unchanged);
-      })
-      (λ other at copied none. copied (same other at ∙ none))
+      }) (λ other at copied none. copied (same other at ∙ none))
 
   -- a copy is gone that was the node's last block
-  pub climbs_dropped : (level index : ℕ) (tree tree' : TreeView) (history : BusHistory) (engine : TagEngineView T) (copy : CachedNode) →
-      tree'.geometry ≡ tree.geometry → tree'.root ≡ tree.root → AreNodeCaches tree'.geometry tree'.caches → OtherLevels level tree.caches tree'.caches →
+  pub climbs_dropped : {level : ℕ} (index : ℕ) {tree tree' : TreeView} {history : BusHistory} {engine : TagEngineView T} (copy : CachedNode) → tree'.geometry ≡ tree.geometry → tree'.root ≡ tree.root → AreNodeCaches tree'.geometry tree'.caches → OtherLevels level tree.caches tree'.caches →
       cached_node tree level index ≡ Some copy → cached_node tree' level index ≡ None →
       ((other at : ℕ) → ¬ (SameNode level index other at) → cached_node tree' other at ≡ cached_node tree other at) →
       (HoldsTree (tags_of d n) tree history engine → engine.evidence ≡ None → copy.block ≡ block_or_zeros (last_node level index engine.made)) →
       Climbs (tags_of d n) level tree history engine tree' history engine None
-  climbs_dropped level index tree tree' history engine copy geometry root nodes others held gone same is_last =
-      climbs_recached d n level tree tree' history engine geometry root (λ are. nodes)
-      (λ other low. others other (λ (e : other ≡ level). absurd (omega (arith, e, low))))
-      (λ was. record {
+  climbs_dropped {level} index {tree} {tree'} {history} {engine} copy geometry root nodes others held gone same is_last =
+      climbs_recached d n geometry root (λ are. nodes)
+      (λ other low. others other (λ (e : other ≡ level). absurd (omega (arith, e, low)))) (λ was. record {
         fits = λ quiet.
             tree_recached (tags_of d n engine) tree tree' engine.made history.written (was.fits quiet) geometry root
             (λ other at node. elim (same_or_not level index other at) [
               | inr apart ↦ ap (λ (o : Option CachedNode). current_of o (last_node other at engine.made)) (same other at apart)
               | inl here ↦
-                  subst (λ (k : ℕ). current_block tree' engine.made k at ≡ current_block tree engine.made k at) (sym here.0)
-                  (subst (λ (i : ℕ). current_block tree' engine.made level i ≡ current_block tree engine.made level i) (sym here.1)
-                  (ap (λ (o : Option CachedNode). current_of o (last_node level index engine.made)) gone
-                  ∙ sym (is_last was quiet)
-                  ∙ sym (ap (λ (o : Option CachedNode). current_of o (last_node level index engine.made)) held)))
-            ])
-            (λ other at kept node found unchanged. elim (same_or_not level index other at) [
+                  rw (here.0, here.1) (ap (λ (o : Option CachedNode). current_of o (last_node level index engine.made)) gone ∙ sym (is_last was quiet)
+                  ∙ sym (ap (λ (o : Option CachedNode). current_of o (last_node level index engine.made)) held))
+            ]) (λ other at kept node found unchanged. elim (same_or_not level index other at) [
               | inr apart ↦ (was.fits quiet).clean other at kept node (sym (same other at apart) ∙ found) unchanged
               | inl here ↦
                   let none : None ≡ Some kept =
                   sym (ap (λ (k : ℕ). cached_node tree' k at) here.0 ∙ ap (λ (i : ℕ). cached_node tree' level i) here.1 ∙ gone) ∙ found in
                   absurd (cc)
             ]);
-      })
-      (λ other at copied none. elim (same_or_not level index other at) [
+      }) (λ other at copied none. elim (same_or_not level index other at) [
         | inr apart ↦ copied (same other at apart ∙ none)
         | inl here ↦ copied (ap (λ (k : ℕ). cached_node tree' k at) here.0 ∙ ap (λ (i : ℕ). cached_node tree' level i) here.1 ∙ gone)
       ])
 
   -- A read of a node
 
-  module _ (tree : TreeView) (level index : ℕ) (tag : List ℕ) (old new : BusHistory) (engine engine' : TagEngineView T) (result : Result (List ℕ) MemStop)
+  module _ (tree : TreeView) {level index : ℕ} {tag : List ℕ} {old new : BusHistory} {engine engine' : TagEngineView T} {result : Result (List ℕ) MemStop}
       (node : IsNode tree.geometry level index) (is_tag : tag ≡ kept_tag tree engine.made level index)
       (read : ReadsKept (tags_of d n) level index tag old engine new engine' result) where
     tags_same : tags_of d n engine' ≡ tags_of d n engine
@@ -167,13 +159,10 @@ module _ {T : Type 0} (d n : T → List ℕ → List ℕ) where
           (λ other at inside. elim (same_or_not level index other at) [
             | inr apart ↦ ap (λ (o : Option CachedNode). current_of o (last_node other at engine'.made)) (same other at apart)
             | inl here ↦
-                subst (λ (k : ℕ). current_block tree' engine'.made k at ≡ current_block tree engine'.made k at) (sym here.0)
-                (subst (λ (i : ℕ). current_block tree' engine'.made level i ≡ current_block tree engine'.made level i) (sym here.1)
-                (ap (λ (o : Option CachedNode). current_of o (last_node level index engine'.made)) put
+                rw (here.0, here.1) (ap (λ (o : Option CachedNode). current_of o (last_node level index engine'.made)) put
                 ∙ sym (block_last holds quiet)
-                ∙ sym (ap (λ (o : Option CachedNode). current_of o (last_node level index engine'.made)) absent)))
-          ])
-          (λ other at copy inside found unchanged. elim (same_or_not level index other at) [
+                ∙ sym (ap (λ (o : Option CachedNode). current_of o (last_node level index engine'.made)) absent))
+          ]) (λ other at copy inside found unchanged. elim (same_or_not level index other at) [
             | inr apart ↦ fits.clean other at copy inside (sym (same other at apart) ∙ found) unchanged
             | inl here ↦
                 let is : Some (record { block = block; changed = false }) ≡ Some copy =
@@ -232,8 +221,7 @@ module _ {T : Type 0} (d n : T → List ℕ → List ℕ) where
             read = λ holds quiet other at held. elim (same_or_not level index other at) [
               | inr apart ↦ read_up_held tree engine.made other at old new (λ none. held (same other at apart ∙ none))
               | inl here ↦
-                  subst (λ (k : ℕ). WasReadUp tree engine.made k at old new) (sym here.0)
-                  (subst (λ (i : ℕ). WasReadUp tree engine.made level i old new) (sym here.1) (read_here holds quiet))
+                  rw (here.0, here.1) (read_here holds quiet)
             ];
             unread = climbs.unread;
           }
@@ -241,9 +229,9 @@ module _ {T : Type 0} (d n : T → List ℕ → List ℕ) where
   -- Writes of a node
 
   -- where room was taken for its message first
-  pub writes_taken : (geometry : GeometryView) (old new : BusHistory) (engine taken engine' : TagEngineView T) (unwritten : ℕ) → taken ≡ with_room 1 engine →
+  pub writes_taken : {geometry : GeometryView} {old new : BusHistory} {engine taken engine' : TagEngineView T} {unwritten : ℕ} → taken ≡ with_room 1 engine →
       WritesNodes (tags_of d n) geometry old taken new engine' unwritten → WritesNodes (tags_of d n) geometry old engine new engine' unwritten
-  writes_taken geometry old new engine taken engine' unwritten taken_is wrote_taken =
+  writes_taken {geometry} {old} {new} {engine} {taken} {engine'} {unwritten} taken_is wrote_taken =
       let wrote : WritesNodes (tags_of d n) geometry old (with_room 1 engine) new engine' unwritten =
       subst (λ (e : TagEngineView T). WritesNodes (tags_of d n) geometry old e new engine' unwritten) taken_is wrote_taken in
       record {
@@ -294,7 +282,7 @@ module _ {T : Type 0} (d n : T → List ℕ → List ℕ) where
   none_unwritten stop (inl going) remembered = ap unwritten_in going
   none_unwritten stop (inr want) remembered = absurd (remembered want)
 
-  pub climbs_wrote : (tree tree' : TreeView) (level : ℕ) (old new : BusHistory) (engine engine' : TagEngineView T) (stop : Option MemStop) → CanStop stop →
+  pub climbs_wrote : {tree tree' : TreeView} {level : ℕ} {old new : BusHistory} {engine engine' : TagEngineView T} {stop : Option MemStop} → CanStop stop →
       WritesNodes (tags_of d n) tree.geometry old engine new engine' (unwritten_in stop) → engine'.room ≤ engine.room → tree'.geometry ≡ tree.geometry → tree'.root ≡ tree.root →
       (AreNodeCaches tree.geometry tree.caches → AreNodeCaches tree'.geometry tree'.caches) →
       ((other : ℕ) → other < level → level_cache tree'.caches other ≡ level_cache tree.caches other) →
@@ -306,7 +294,7 @@ module _ {T : Type 0} (d n : T → List ℕ → List ℕ) where
       SlotsAreTags (tags_of d n engine) tree.geometry engine'.made) →
       ((other at : ℕ) → cached_node tree' other at ≢ None → cached_node tree other at ≢ None) →
       Climbs (tags_of d n) level tree old engine tree' new engine' stop
-  climbs_wrote tree tree' level old new engine engine' stop can wrote no_rise geometry root nodes copies last blocks written holds slots held = record {
+  climbs_wrote {tree} {tree'} {level} {old} {new} {engine} {engine'} {stop} can wrote no_rise geometry root nodes copies last blocks written holds slots held = record {
     moves = wrote.moves;
     lines = wrote.lines;
     geometry = geometry;
@@ -336,8 +324,8 @@ module _ {T : Type 0} (d n : T → List ℕ → List ℕ) where
   }
 
   -- a node was written whose parent has a copy, and its tag put into that
-  module _ (tree tree' : TreeView) (level index : ℕ) (block tag : List ℕ) (old new : BusHistory) (engine taken engine' : TagEngineView T) (taken_is : taken ≡ with_room 1 engine)
-      (write : NodeWritten (tags_of d n) level index block old taken new engine') where
+  module _ (tree tree' : TreeView) {level index : ℕ} {block : List ℕ} (tag : List ℕ) {old new : BusHistory} (engine : TagEngineView T)
+      {taken engine' : TagEngineView T} (taken_is : taken ≡ with_room 1 engine) (write : NodeWritten (tags_of d n) level index block old taken new engine') where
     made_before : taken.made ≡ engine.made
     made_before = ap (λ (e : TagEngineView T). e.made) taken_is
 
@@ -399,7 +387,7 @@ module _ {T : Type 0} (d n : T → List ℕ → List ℕ) where
           let tags : tags_of d n engine' ≡ tags_of d n engine = same_tags d n old new taken engine' write.moves ∙ tags_taken in
           let put : IsPut level index block engine.made engine'.made old.written new.written =
           subst (λ (m : List Message). IsPut level index block m engine'.made old.written new.written) made_before
-          (is_put d n level index block old new taken engine' write once) in
+          (is_put d n write once) in
           subst (λ (t : Message → List ℕ). IsTree t tree' engine'.made new.written) (sym tags)
           (tree_put (tags_of d n engine) tree tree' engine.made engine'.made old.written new.written level index block tag (holds.fits was) puts put
           below node (is_tag ∙ ap (λ (t : Message → List ℕ). t (Node level index block)) tags_taken) fits_tag long is_current_block);
@@ -411,9 +399,9 @@ held_copy None held = absurd (held refl)
 held_copy (Some copy) held = (copy, refl)
 
 -- what had a copy before a tag was put into one
-pub puts_held : (tree tree' : TreeView) (level index : ℕ) (tag : List ℕ) → PutsTag tree tree' level index tag → (other at : ℕ) →
+pub puts_held : {tree tree' : TreeView} {level index : ℕ} {tag : List ℕ} → PutsTag tree tree' level index tag → (other at : ℕ) →
     cached_node tree' other at ≢ None → cached_node tree other at ≢ None
-puts_held tree tree' level index tag puts other at held none =
+puts_held {tree} {tree'} {level} {index} {tag} puts other at held none =
     elim (same_or_not (level + 1) (index / arity tree.geometry) other at) [
       | inr apart ↦ held (puts.same other at apart ∙ none)
       | inl here ↦

@@ -47,7 +47,7 @@ pub record NodeWritten {T : Type 0} (tags : TagEngineView T → Message → List
   pub honest : (used more : List (ℕ × Counter)) → IsAccounted (tags engine) used engine.made old None engine.evidence →
       IsAccounted (tags engine) more engine'.made new None engine'.evidence
 
-module _ {T : Type 0} (d n : T → List ℕ → List ℕ) (level index : ℕ) (block : List ℕ) (old new : BusHistory) (engine engine' : TagEngineView T)
+module _ {T : Type 0} (d n : T → List ℕ → List ℕ) {level index : ℕ} {block : List ℕ} {old new : BusHistory} {engine engine' : TagEngineView T}
     (write : NodeWritten (tags_of d n) level index block old engine new engine') where
   made_is : engine'.made ≡ engine.made ++ Node level index block ∷ []
   made_is = ap (λ (e : TagEngineView T). e.made) write.made
@@ -100,8 +100,7 @@ module _ {T : Type 0} (d n : T → List ℕ → List ℕ) (level index : ℕ) (b
                 (Contains-append_right engine.made (Node level index block ∷ []) (Node level index block) first) in
                 let own_message : Contains engine'.made (Node level index (new.written (node_place level index))) =
                 subst (λ (b : List ℕ). Contains engine'.made (Node level index b)) (sym stored) listed in
-                inr (subst (λ (k : ℕ). Contains engine'.made (Node k at (new.written (node_place k at)))) (sym same.0)
-                (subst (λ (i : ℕ). Contains engine'.made (Node level i (new.written (node_place level i)))) (sym same.1) own_message))
+                inr (rw (same.0, same.1) own_message)
           ]
         ];
   }

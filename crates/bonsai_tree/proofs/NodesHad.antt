@@ -55,8 +55,7 @@ module _ (tree tree' : TreeView) (level : ℕ) (is : IsCache node_sets (level_ca
       let became = becomes_as ways (set_order tree level (index % node_sets)) (same ∙ order_of) after in
       elim (same_or_not level (index % node_sets) other at) [
         | inr apart ↦ became.others other at apart
-        | inl e ↦ subst (λ (k : ℕ). set_order tree' k at ≡ set_order tree k at) (sym e.0)
-            (subst (λ (s : ℕ). set_order tree' level s ≡ set_order tree level s) (sym e.1) became.order_is)
+        | inl e ↦ rw (e.0, e.1) became.order_is
       ]
 
   is_set : IsSet (set_at (level_cache tree.caches level) index)
@@ -120,12 +119,11 @@ unlisted tree level index is none =
 -- Nodes that were had
 
 -- before a call that has none
-pub had_still : (May : ℕ → ℕ → Type 0) (from : ℕ) (tree mid tree' : TreeView) (first second third : BusHistory) → NodesHad May from tree first mid second →
+pub had_still : {May : ℕ → ℕ → Type 0} {from : ℕ} {tree mid tree' : TreeView} {first second third : BusHistory} → NodesHad May from tree first mid second →
     SameOrders mid tree' → ((level index : ℕ) → from ≤ level → third.reads (node_place level index) ≡ second.reads (node_place level index)) →
     NodesHad May from tree first tree' third
-had_still May from tree mid tree' first second third nodes same unread =
-    nodes_on May from tree mid tree' first second third nodes
-    (record {
+had_still {May} {from} {tree} {mid} {tree'} {first} {second} {third} nodes same unread =
+    nodes_on nodes (record {
       had = [];
       each = λ level index listed. absurd (omega (arith, listed.1));
       orders = same;
@@ -136,9 +134,9 @@ is_here : (May : ℕ → ℕ → Type 0) (level index : ℕ) (node : ℕ × ℕ)
 is_here May level index node may is = subst (λ (n : ℕ × ℕ). (level ≤ n.0) × May n.0 n.1) is (omega arith, may)
 
 -- one that had a copy
-pub had_one : (May : ℕ → ℕ → Type 0) (level index : ℕ) (tree tree' : TreeView) (history : BusHistory) → May level index →
+pub had_one : {May : ℕ → ℕ → Type 0} {level : ℕ} (index : ℕ) {tree tree' : TreeView} {history : BusHistory} → May level index →
     SetBecomes level (index % node_sets) (once_had index (set_order tree level (index % node_sets))) tree tree' → NodesHad May level tree history tree' history
-had_one May level index tree tree' history may became = record {
+had_one {May} {level} index {tree} {tree'} {history} may became = record {
   had = (level, index) ∷ [];
   each = λ other at listed. elim (Contains-push_cases [] (level, index) (other, at) listed) [
     | inl none ↦ absurd (omega (arith, none.1))
@@ -146,9 +144,7 @@ had_one May level index tree tree' history may became = record {
   ];
   orders = λ other at. elim (same_or_not level (index % node_sets) other at) [
     | inr apart ↦ became.others other at apart ∙ sym (last_other other at level index (set_order tree other at) apart)
-    | inl e ↦ subst (λ (k : ℕ). set_order tree' k at ≡ after_had k at ((level, index) ∷ []) (set_order tree k at)) (sym e.0)
-        (subst (λ (s : ℕ). set_order tree' level s ≡ after_had level s ((level, index) ∷ []) (set_order tree level s)) (sym e.1)
-        (became.order_is ∙ sym (last_own level index (set_order tree level (index % node_sets)))))
+    | inl e ↦ rw (e.0, e.1) (became.order_is ∙ sym (last_own level index (set_order tree level (index % node_sets))))
   ];
   reads = λ other at high. omega arith;
 }
@@ -156,7 +152,8 @@ had_one May level index tree tree' history may became = record {
 -- one that came, after room was made for it and the nodes above it were had
 module _ (May : ℕ → ℕ → Type 0) (level index : ℕ) (tree start room parent tree' : TreeView) (first second third fourth : BusHistory) (may : May level index)
     (same : SameOrders tree start) (absent : is_in index (set_order tree level (index % node_sets)) ≡ false)
-    (made : RoomHad May level index start first room second) (above : HadAbove May level room second parent third) (came : NodeAdded level index parent third tree' fourth) where
+    (made : RoomHad May level index start first room second) (above : HadAbove May level room second parent third)
+    (came : NodeAdded level index parent third tree' fourth) where
   abbrev own : List (ℕ × ℕ)
   own = made.above.had.had
 
@@ -250,8 +247,7 @@ module _ (May : ℕ → ℕ → Type 0) (level index : ℕ) (tree start room par
     ];
     orders = λ other at. elim (same_or_not level (index % node_sets) other at) [
       | inr apart ↦ other_order other at apart
-      | inl e ↦ subst (λ (k : ℕ). set_order tree' k at ≡ after_had k at all (set_order tree k at)) (sym e.0)
-          (subst (λ (s : ℕ). set_order tree' level s ≡ after_had level s all (set_order tree level s)) (sym e.1) own_order)
+      | inl e ↦ rw (e.0, e.1) own_order
     ];
     reads = λ other at high. elim (cases_eq other level) [
       | inr differs ↦ other_reads other at high differs

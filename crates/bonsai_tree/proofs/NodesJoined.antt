@@ -35,9 +35,8 @@ nodes_none May from tree history = record {
   reads = λ level index high. omega arith;
 }
 
-pub nodes_on : (May : ℕ → ℕ → Type 0) (from : ℕ) (tree mid tree' : TreeView) (first second third : BusHistory) →
-    NodesHad May from tree first mid second → NodesHad May from mid second tree' third → NodesHad May from tree first tree' third
-nodes_on May from tree mid tree' first second third nodes more = record {
+pub nodes_on : {May : ℕ → ℕ → Type 0} {from : ℕ} {tree mid tree' : TreeView} {first second third : BusHistory} → NodesHad May from tree first mid second → NodesHad May from mid second tree' third → NodesHad May from tree first tree' third
+nodes_on {May} {from} {tree} {mid} {tree'} {first} {second} {third} nodes more = record {
   had = nodes.had ++ more.had;
   each = λ level index listed. elim (Contains-append_cases nodes.had more.had (level, index) listed) [
     | inl early ↦ nodes.each level index early
@@ -59,24 +58,23 @@ nodes_on May from tree mid tree' first second third nodes more = record {
 -- More nodes may be had
 
 module _ (May Wider : ℕ → ℕ → Type 0) where
-  pub nodes_wider : (from : ℕ) (tree tree' : TreeView) (old new : BusHistory) → ((level index : ℕ) → from ≤ level → May level index → Wider level index) →
+  pub nodes_wider : {from : ℕ} {tree tree' : TreeView} {old new : BusHistory} → ((level index : ℕ) → from ≤ level → May level index → Wider level index) →
       NodesHad May from tree old tree' new → NodesHad Wider from tree old tree' new
-  nodes_wider from tree tree' old new wider nodes = record {
+  nodes_wider {from} {tree} {tree'} {old} {new} wider nodes = record {
     had = nodes.had;
     each = λ level index listed. let may = nodes.each level index listed in (may.0, wider level index may.0 may.1);
     orders = nodes.orders;
     reads = nodes.reads;
   }
 
-  pub above_wider : (level : ℕ) (tree tree' : TreeView) (old new : BusHistory) → ((other at : ℕ) → level + 1 ≤ other → May other at → Wider other at) →
+  pub above_wider : {level : ℕ} {tree tree' : TreeView} {old new : BusHistory} → ((other at : ℕ) → level + 1 ≤ other → May other at → Wider other at) →
       HadAbove May level tree old tree' new → HadAbove Wider level tree old tree' new
-  above_wider level tree tree' old new wider nodes =
-      record { had = nodes_wider (level + 1) tree tree' old new wider nodes.had; unread = nodes.unread }
+  above_wider {level} {tree} {tree'} {old} {new} wider nodes = record { had = nodes_wider wider nodes.had; unread = nodes.unread }
 
-  pub room_wider : (level index : ℕ) (tree tree' : TreeView) (old new : BusHistory) → ((other at : ℕ) → level + 1 ≤ other → May other at → Wider other at) →
+  pub room_wider : {level index : ℕ} {tree tree' : TreeView} {old new : BusHistory} → ((other at : ℕ) → level + 1 ≤ other → May other at → Wider other at) →
       RoomHad May level index tree old tree' new → RoomHad Wider level index tree old tree' new
-  room_wider level index tree tree' old new wider room =
-      record { mid = room.mid; above = above_wider level tree room.mid old new wider room.above; room = room.room }
+  room_wider {level} {index} {tree} {tree'} {old} {new} wider room =
+      record { mid = room.mid; above = above_wider wider room.above; room = room.room }
 
 -- Messages that were made in a call
 
@@ -84,8 +82,8 @@ pub since_is : (made made' more : List Message) → made' ≡ made ++ more → s
 since_is made made' more is = ap (λ (all : List Message). drop (length made) all) is ∙ drop-append_seam made more
 
 -- by one of three calls
-module _ (made first second third : List Message) (some more last : List Message) (first_is : first ≡ made ++ some) (second_is : second ≡ first ++ more)
-    (third_is : third ≡ second ++ last) where
+module _ (made : List Message) {first second third : List Message} (some more last : List Message) (first_is : first ≡ made ++ some)
+    (second_is : second ≡ first ++ more) (third_is : third ≡ second ++ last) where
   since_all : since made third ≡ some ++ (more ++ last)
   since_all =
       since_is made third (some ++ (more ++ last))
@@ -99,12 +97,11 @@ module _ (made first second third : List Message) (some more last : List Message
 
   pub since_second : (message : Message) → Contains (since first second) message → Contains (since made third) message
   since_second message listed =
-      subst (λ (l : List Message). Contains l message) (sym since_all)
-      (Contains-append_right some (more ++ last) message
+      subst (λ (l : List Message). Contains l message) (sym since_all) (Contains-append_right some (more ++ last) message
       (Contains-append_left more last message (subst (λ (l : List Message). Contains l message) (since_is first second more second_is) listed)))
 
 -- by one of two
-module _ (made first second : List Message) (some more : List Message) (first_is : first ≡ made ++ some) (second_is : second ≡ first ++ more) where
+module _ (made : List Message) {first second : List Message} (some more : List Message) (first_is : first ≡ made ++ some) (second_is : second ≡ first ++ more) where
   pub since_both : since made second ≡ some ++ more
   since_both = since_is made second (some ++ more) (second_is ∙ ap (λ (all : List Message). all ++ more) first_is ∙ append_assoc made some more)
 
@@ -124,7 +121,7 @@ climb_here geometry level index more =
     let none : 0 ≡ level - level = omega arith in
     inl (omega arith, sym (above_none geometry index) ∙ ap (above geometry index) none)
 
-module _ (geometry geometry' : GeometryView) (few more : List Message) (same : geometry' ≡ geometry)
+module _ {geometry geometry' : GeometryView} (few more : List Message) (same : geometry' ≡ geometry)
     (wider : (message : Message) → Contains few message → Contains more message) where
   pub made_wider : (level index : ℕ) → IsAboveMade geometry' few level index → IsAboveMade geometry more level index
   made_wider level index node = record {

@@ -58,17 +58,16 @@ path_more levels =
     omega (arith, same, some)
 
 -- where a node of level 1 has a copy, the path above it was read
-pub path_read : (tree : TreeView) (page from : ℕ) (made : List Message) (old mid new : BusHistory) → 1 ≤ from →
+pub path_read : {tree : TreeView} (page from : ℕ) {made : List Message} {old mid : BusHistory} (new : BusHistory) → 1 ≤ from →
     ((place : Place) → RoseBy 0 (mid.reads place) (new.reads place)) →
     WasReadUp tree made 1 (page / arity tree.geometry) old mid → (level : ℕ) → from ≤ level → level ≤ tree.geometry.levels →
     ((lower : ℕ) → 1 ≤ lower → lower ≤ level → cached_node tree lower (path_index tree.geometry lower page) ≡ None) →
     NodeCame made level (path_index tree.geometry level page) old new
-path_read tree page from made old mid new some stays up level low high none =
+path_read {tree} page from {made} {old} {mid} new some stays up level low high none =
     let level_is : level ≡ 1 + (level - 1) = omega (arith, low, some) in
     let index_is : path_index tree.geometry level page ≡ above tree.geometry (page / arity tree.geometry) (level - 1) = path_up tree.geometry page level (level - 1) level_is in
     let came : NodeCame made (1 + (level - 1)) (above tree.geometry (page / arity tree.geometry) (level - 1)) old mid =
-    up.rose (level - 1) (omega (arith, high, low, some))
-    (λ lower few.
+    up.rose (level - 1) (omega (arith, high, low, some)) (λ lower few.
     ap (λ (i : ℕ). cached_node tree (1 + lower) i) (sym (path_up tree.geometry page (1 + lower) lower refl))
     ∙ none (1 + lower) (omega arith) (omega (arith, few, low, some))) in
     came_before made level (path_index tree.geometry level page) old mid new stays
@@ -76,23 +75,22 @@ path_read tree page from made old mid new some stays up level low high none =
     (subst (λ (i : ℕ). NodeCame made (1 + (level - 1)) i old mid) (sym index_is) came))
 
 module _ {T : Type 0} (d n : T → List ℕ → List ℕ) where
-  pub climb_room : (from cost : ℕ) (tree tree' : TreeView) (old new : BusHistory) (engine engine' : TagEngineView T) (stop : Option MemStop) →
-      Climbs (tags_of d n) from tree old engine tree' new engine' stop → length engine'.made ≤ length engine.made + cost → engine.room ≤ engine'.room + cost
-  climb_room from cost tree tree' old new engine engine' stop climbs few =
+  pub climb_room : {from : ℕ} (cost : ℕ) {tree tree' : TreeView} {old new : BusHistory} {engine engine' : TagEngineView T} {stop : Option MemStop} → Climbs (tags_of d n) from tree old engine tree' new engine' stop → length engine'.made ≤ length engine.made + cost → engine.room ≤ engine'.room + cost
+  climb_room {from} cost {tree} {tree'} {old} {new} {engine} {engine'} {stop} climbs few =
       omega (arith, climbs.room, ap length climbs.moves.made, length-append engine.made climbs.moves.more, few)
 
   -- A fetch: the node above the page's is had, and then the page's own is read
-  module _ (tree tree' : TreeView) (page : ℕ) (tag : List ℕ) (old mid new : BusHistory) (engine engine' engine'' : TagEngineView T) (result : Result (List ℕ) MemStop)
-      (node : IsNode tree.geometry 0 page) (climbs : Climbs (tags_of d n) (0 + 1) tree old engine tree' mid engine' None)
+  module _ {tree tree' : TreeView} {page : ℕ} {tag : List ℕ} {old mid new : BusHistory} {engine engine' engine'' : TagEngineView T}
+      {result : Result (List ℕ) MemStop} (node : IsNode tree.geometry 0 page) (climbs : Climbs (tags_of d n) (0 + 1) tree old engine tree' mid engine' None)
       (is_tag : (made : List Message) → tag ≡ kept_tag tree' made 0 page) (read : ReadsKept (tags_of d n) 0 page tag mid engine' new engine'' result) where
     node_here : IsNode tree'.geometry 0 page
     node_here = subst (λ (k : GeometryView). IsNode k 0 page) (sym climbs.geometry) node
 
     last_read : Climbs (tags_of d n) 0 tree' mid engine' tree' new engine'' (result_err result)
-    last_read = climbs_read d n tree' 0 page tag mid new engine' engine'' result node_here (is_tag engine'.made) read
+    last_read = climbs_read d n tree' node_here (is_tag engine'.made) read
 
     pub fetched : Climbs (tags_of d n) 0 tree old engine tree' new engine'' (result_err result)
-    fetched = climbs_on d n 0 tree tree' tree' old mid new engine engine' engine'' (result_err result) (climbs_up d n 0 1 tree tree' old mid engine engine' None (omega arith) climbs) last_read
+    fetched = climbs_on d n (climbs_up d n (omega arith) climbs) last_read
 
     pub fetched_pages : SamePages old engine.made new engine''.made
     fetched_pages = record {
@@ -107,8 +105,7 @@ module _ {T : Type 0} (d n : T → List ℕ → List ℕ) where
     holds_mid holds = climbs.holds holds (λ (e : None ≡ Some NoMemory). cc)
 
     fetched_kept : HoldsTree (tags_of d n) tree old engine → engine''.evidence ≡ None → IsKeptNode (tags_of d n engine') engine'.made mid.written 0 page tag
-    fetched_kept holds quiet =
-        kept_node d n tree' 0 page tag mid new engine' engine'' result node_here (is_tag engine'.made) read (holds_mid holds) (still_quiet quiet)
+    fetched_kept holds quiet = kept_node d n tree' node_here (is_tag engine'.made) read (holds_mid holds) (still_quiet quiet)
 
     block_by : (answer : Result (List ℕ) MemStop) → IfOk answer (λ block. block ≡ block_or_zeros (last_node 0 page engine'.made)) →
         IfOk answer (λ block. block ≡ page_block page engine.made)
@@ -177,7 +174,7 @@ module _ {T : Type 0} (d n : T → List ℕ → List ℕ) where
     fetched_read holds quiet going held = record {
       rose = λ level low high none.
           elim (cases_lt 0 level) [
-            | inl some ↦ path_read tree page 1 engine.made old mid new (omega arith) read.moves.reads
+            | inl some ↦ path_read page 1 new (omega arith) read.moves.reads
                 (climbs.read holds (still_quiet quiet) 1 (page / arity tree.geometry) held) level (omega (arith, some)) high
                 (λ lower above_none_lower few. none lower (omega arith) few)
             | inr first ↦
@@ -194,11 +191,10 @@ module _ {T : Type 0} (d n : T → List ℕ → List ℕ) where
     }
 
   -- An update: the node above the page's is had, and then the page's own is written
-  pub updated_read : (tree tree' : TreeView) (page : ℕ) (old mid new : BusHistory) (engine engine' engine'' : TagEngineView T) →
-      Climbs (tags_of d n) (0 + 1) tree old engine tree' mid engine' None → ((place : Place) → RoseBy 0 (mid.reads place) (new.reads place)) →
+  pub updated_read : {tree tree' : TreeView} {page : ℕ} {old mid new : BusHistory} {engine engine' : TagEngineView T} (engine'' : TagEngineView T) → Climbs (tags_of d n) (0 + 1) tree old engine tree' mid engine' None → ((place : Place) → RoseBy 0 (mid.reads place) (new.reads place)) →
       engine''.evidence ≡ engine'.evidence → cached_node tree' 1 (page / arity tree.geometry) ≢ None →
       HoldsTree (tags_of d n) tree old engine → engine''.evidence ≡ None → PathWasRead tree engine.made 1 page old new
-  updated_read tree tree' page old mid new engine engine' engine'' climbs stays same held holds quiet = record {
+  updated_read {tree} {tree'} {page} {old} {mid} {new} {engine} {engine'} engine'' climbs stays same held holds quiet = record {
     rose = λ level low high none.
-        path_read tree page 1 engine.made old mid new (omega arith) stays (climbs.read holds (sym same ∙ quiet) 1 (page / arity tree.geometry) held) level low high none;
+        path_read page 1 new (omega arith) stays (climbs.read holds (sym same ∙ quiet) 1 (page / arity tree.geometry) held) level low high none;
   }

@@ -144,8 +144,7 @@ module _ (tag_of : Message → List ℕ) (tree tree' : TreeView) (made made' : L
   slots_after lower at inside =
       elim (same_or_not level index lower at) [
         | inl same ↦
-            subst (λ (k : ℕ). kept_tag tree' made' k at ≡ tag_of_last tag_of k at (last_node k at made')) (sym same.0)
-            (subst (λ (i : ℕ). kept_tag tree' made' level i ≡ tag_of_last tag_of level i (last_node level i made')) (sym same.1) own_slot)
+            rw (same.0, same.1) own_slot
         | inr differs ↦ elim (same_or_not (level + 1) (index / arity tree.geometry) (lower + 1) (at / arity tree.geometry)) [
           | inr apart ↦ other_slot lower at differs apart inside
           | inl same ↦

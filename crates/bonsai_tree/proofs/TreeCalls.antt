@@ -18,8 +18,7 @@ use Rattle.bonsai_tree.proofs.NodesJoined.{since_is}
 use Rattle.bonsai_tree.proofs.PathCalls.{climb_room}
 use Rattle.bonsai_tree.proofs.WrittenBack.{came_unless_held}
 
-pub tree_called : {T : Type 0} (d n : T → List ℕ → List ℕ) (Where : Place → Type 0) (from : ℕ) (tree tree' : TreeView) (old new : BusHistory) (engine engine' : TagEngineView T)
-    (stop : Option MemStop) → Climbs (tags_of d n) from tree old engine tree' new engine' stop → AreNodeCaches tree'.geometry tree'.caches →
+pub tree_called : {T : Type 0} (d n : T → List ℕ → List ℕ) {Where : Place → Type 0} {from : ℕ} {tree tree' : TreeView} {old new : BusHistory} {engine engine' : TagEngineView T} {stop : Option MemStop} → Climbs (tags_of d n) from tree old engine tree' new engine' stop → AreNodeCaches tree'.geometry tree'.caches →
     WritesBack (EndsQuietly (tags_of d n) tree old engine engine') 1 tree old engine.made tree' new engine'.made stop →
     new.accesses ≤ old.accesses + path_accesses tree.geometry.levels → length engine'.made ≤ length engine.made + path_accesses tree.geometry.levels →
     ((place : Place) → stop ≡ Some (Tampered place) → Where place) →
@@ -27,7 +26,7 @@ pub tree_called : {T : Type 0} (d n : T → List ℕ → List ℕ) (Where : Plac
     (HoldsTree (tags_of d n) tree old engine → engine'.evidence ≡ None → stop ≡ None → GoesOutFor tree old engine.made tree' new) →
     (stop ≡ None → NodesHad (MayBeHad tree.geometry Where (since engine.made engine'.made)) 1 tree old tree' new) →
     TreeCall (tags_of d n) Where tree old engine tree' new engine' stop
-tree_called d n Where from tree tree' old new engine engine' stop climbs nodes back once few tampered found out_for had =
+tree_called d n {Where} {from} {tree} {tree'} {old} {new} {engine} {engine'} {stop} climbs nodes back once few tampered found out_for had =
     let few_nodes : HasFewNodes tree' = λ level. few_copies tree'.geometry tree'.caches level nodes in record {
       steps = record {
         moves = climbs.moves;
@@ -57,6 +56,6 @@ tree_called d n Where from tree tree' old new engine engine' stop climbs nodes b
       };
       once = once;
       few = few;
-      room = climb_room d n from (path_accesses tree.geometry.levels) tree tree' old new engine engine' stop climbs few;
+      room = climb_room d n (path_accesses tree.geometry.levels) climbs few;
       few_nodes = few_nodes;
     }

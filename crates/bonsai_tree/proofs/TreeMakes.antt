@@ -36,10 +36,9 @@ makes_refused tag_of expected history engine = record {
 }
 
 -- more may be expected, where there is no evidence
-pub makes_quiet : {T : Type 0} (tag_of : Message → List ℕ) (expected expected' : List (ℕ × Counter) → Type 0) (old new : BusHistory) (engine engine' : TagEngineView T)
-    (accesses : List Access) (stop : Option MemStop) → ((used : List (ℕ × Counter)) → expected' used → engine.evidence ≡ None → expected used) →
+pub makes_quiet : {T : Type 0} {tag_of : Message → List ℕ} {expected : List (ℕ × Counter) → Type 0} (expected' : List (ℕ × Counter) → Type 0) {old new : BusHistory} {engine engine' : TagEngineView T} {accesses : List Access} {stop : Option MemStop} → ((used : List (ℕ × Counter)) → expected' used → engine.evidence ≡ None → expected used) →
     Makes tag_of expected old engine new engine' accesses stop → Makes tag_of expected' old engine new engine' accesses stop
-makes_quiet tag_of expected expected' old new engine engine' accesses stop leaves makes =
+makes_quiet {tag_of} {expected} expected' {old} {new} {engine} {engine'} {accesses} {stop} leaves makes =
     makes_on tag_of expected' expected old old new engine engine engine' [] accesses stop leaves (makes_not tag_of expected' old engine) makes
 
 -- a bus made them
@@ -55,10 +54,9 @@ accesses_of bus_moved tag_of expected bus bus' old new engine engine' stop makes
 
 module _ {T : Type 0} (d n : T → List ℕ → List ℕ) where
   -- room was taken for its message first
-  taken_room : (expected : List (ℕ × Counter) → Type 0) (old new : BusHistory) (engine engine' : TagEngineView T) (accesses : List Access) (stop : Option MemStop) (message : Message) →
-      engine' ≡ after_make message (with_room 1 engine) → Makes (tags_of d n engine) expected old (with_room 1 engine) new engine' accesses stop →
+  taken_room : {expected : List (ℕ × Counter) → Type 0} {old new : BusHistory} {engine engine' : TagEngineView T} {accesses : List Access} {stop : Option MemStop} (message : Message) → engine' ≡ after_make message (with_room 1 engine) → Makes (tags_of d n engine) expected old (with_room 1 engine) new engine' accesses stop →
       Makes (tags_of d n engine) expected old engine new engine' accesses stop
-  taken_room expected old new engine engine' accesses stop message is makes =
+  taken_room {expected} {old} {new} {engine} {engine'} {accesses} {stop} message is makes =
       let one : engine'.made ≡ engine.made ++ message ∷ [] = ap (λ (e : TagEngineView T). e.made) is in
       let room : engine'.room ≡ max engine.room 1 - (length engine'.made - length engine.made) = makes.room in
       record {
@@ -84,18 +82,17 @@ module _ {T : Type 0} (d n : T → List ℕ → List ℕ) where
         };
       }
 
-  pub makes_taken : (expected : List (ℕ × Counter) → Type 0) (old new : BusHistory) (engine taken engine' : TagEngineView T) (accesses : List Access) (stop : Option MemStop) (message : Message) →
-      taken ≡ with_room 1 engine → engine' ≡ after_make message taken → Makes (tags_of d n taken) expected old taken new engine' accesses stop →
+  pub makes_taken : {expected : List (ℕ × Counter) → Type 0} {old new : BusHistory} {engine taken engine' : TagEngineView T} {accesses : List Access} {stop : Option MemStop} (message : Message) → taken ≡ with_room 1 engine → engine' ≡ after_make message taken → Makes (tags_of d n taken) expected old taken new engine' accesses stop →
       Makes (tags_of d n engine) expected old engine new engine' accesses stop
-  makes_taken expected old new engine taken engine' accesses stop message taken_is is makes =
-      taken_room expected old new engine engine' accesses stop message (is ∙ ap (λ (e : TagEngineView T). after_make message e) taken_is)
+  makes_taken {expected} {old} {new} {engine} {taken} {engine'} {accesses} {stop} message taken_is is makes =
+      taken_room message (is ∙ ap (λ (e : TagEngineView T). after_make message e) taken_is)
       (subst (λ (e : TagEngineView T). Makes (tags_of d n e) expected old e new engine' accesses stop) taken_is makes)
 
   -- a node whose tag is kept
-  pub makes_kept : (level index : ℕ) (tag : List ℕ) (old new : BusHistory) (engine engine' : TagEngineView T) (accesses : List Access) (stop : Option MemStop) → tag ≢ no_tag →
+  pub makes_kept : (level index : ℕ) (tag : List ℕ) {old new : BusHistory} {engine engine' : TagEngineView T} {accesses : List Access} {stop : Option MemStop} → tag ≢ no_tag →
       Makes (tags_of d n engine) (λ used. IsCurrentNode (tags_of d n engine) engine.made old.written level index tag) old engine new engine' accesses stop →
       Makes (tags_of d n engine) (λ used. IsKeptNode (tags_of d n engine) engine.made old.written level index tag) old engine new engine' accesses stop
-  makes_kept level index tag old new engine engine' accesses stop some makes =
+  makes_kept level index tag {old} {new} {engine} {engine'} {accesses} {stop} some makes =
       makes_under (tags_of d n engine) (λ used. IsCurrentNode (tags_of d n engine) engine.made old.written level index tag)
       (λ used. IsKeptNode (tags_of d n engine) engine.made old.written level index tag) old new engine engine' accesses stop
       (λ used kept. elim kept [
@@ -104,42 +101,36 @@ module _ {T : Type 0} (d n : T → List ℕ → List ℕ) where
       ]) makes
 
   -- a node of a tree that fits, by the tag that is kept of it
-  pub makes_read : (tree : TreeView) (level index : ℕ) (tag : List ℕ) (old new : BusHistory) (engine engine' : TagEngineView T) (accesses : List Access) (stop : Option MemStop) →
-      IsNode tree.geometry level index → tag ≡ kept_tag tree engine.made level index →
+  pub makes_read : (tree : TreeView) (level index : ℕ) {tag : List ℕ} {old new : BusHistory} {engine engine' : TagEngineView T} {accesses : List Access} {stop : Option MemStop} → IsNode tree.geometry level index → tag ≡ kept_tag tree engine.made level index →
       Makes (tags_of d n engine) (λ used. IsKeptNode (tags_of d n engine) engine.made old.written level index tag) old engine new engine' accesses stop →
       Makes (tags_of d n engine) (λ used. HoldsTree (tags_of d n) tree old engine) old engine new engine' accesses stop
-  makes_read tree level index tag old new engine engine' accesses stop node is_tag makes =
-      makes_quiet (tags_of d n engine) (λ used. IsKeptNode (tags_of d n engine) engine.made old.written level index tag)
-      (λ used. HoldsTree (tags_of d n) tree old engine) old new engine engine' accesses stop
-      (λ used holds quiet.
+  makes_read tree level index {tag} {old} {new} {engine} {engine'} {accesses} {stop} node is_tag makes =
+      makes_quiet (λ used. HoldsTree (tags_of d n) tree old engine) (λ used holds quiet.
       subst (λ (t : List ℕ). IsKeptNode (tags_of d n engine) engine.made old.written level index t) (sym is_tag)
       (is_kept (tags_of d n engine) tree engine.made old.written level index node (holds.fits quiet))) makes
 
   -- the tree fits after a call that did not stop, so that a second one may expect it
-  pub makes_climbed : (from : ℕ) (tree tree' : TreeView) (first second third : BusHistory) (engine engine' engine'' : TagEngineView T) (before after : List Access) (stop : Option MemStop) →
-      Climbs (tags_of d n) from tree first engine tree' second engine' None →
+  pub makes_climbed : {from : ℕ} {tree tree' : TreeView} {first second third : BusHistory} {engine engine' engine'' : TagEngineView T} {before after : List Access} {stop : Option MemStop} → Climbs (tags_of d n) from tree first engine tree' second engine' None →
       Makes (tags_of d n engine) (λ used. HoldsTree (tags_of d n) tree first engine) first engine second engine' before None →
       Makes (tags_of d n engine') (λ used. HoldsTree (tags_of d n) tree' second engine') second engine' third engine'' after stop →
       Makes (tags_of d n engine) (λ used. HoldsTree (tags_of d n) tree first engine) first engine third engine'' (before ++ after) stop
-  makes_climbed from tree tree' first second third engine engine' engine'' before after stop climbs makes more =
+  makes_climbed {from} {tree} {tree'} {first} {second} {third} {engine} {engine'} {engine''} {before} {after} {stop} climbs makes more =
       makes_then d n (λ used. HoldsTree (tags_of d n) tree first engine) (λ used. HoldsTree (tags_of d n) tree' second engine')
       first second third engine engine' engine'' before after stop
       (λ used holds quiet. climbs.holds holds (λ (e : None ≡ Some NoMemory). cc)) makes more
 
   -- a write expects nothing
-  pub makes_wrote : (tree : TreeView) (first second third : BusHistory) (engine engine' engine'' : TagEngineView T) (before after : List Access) (stop : Option MemStop) →
-      Makes (tags_of d n engine) (λ used. HoldsTree (tags_of d n) tree first engine) first engine second engine' before None →
+  pub makes_wrote : (tree : TreeView) {first second third : BusHistory} {engine engine' engine'' : TagEngineView T} {before after : List Access} {stop : Option MemStop} → Makes (tags_of d n engine) (λ used. HoldsTree (tags_of d n) tree first engine) first engine second engine' before None →
       Makes (tags_of d n engine') (λ used. Unit {0}) second engine' third engine'' after stop →
       Makes (tags_of d n engine) (λ used. HoldsTree (tags_of d n) tree first engine) first engine third engine'' (before ++ after) stop
-  makes_wrote tree first second third engine engine' engine'' before after stop makes more =
+  makes_wrote tree {first} {second} {third} {engine} {engine'} {engine''} {before} {after} {stop} makes more =
       makes_then d n (λ used. HoldsTree (tags_of d n) tree first engine) (λ used. Unit {0})
       first second third engine engine' engine'' before after stop (λ used holds quiet. tt) makes more
 
   -- copies alone changed before it
-  pub makes_after : (level : ℕ) (tree tree' : TreeView) (old new : BusHistory) (engine engine' : TagEngineView T) (accesses : List Access) (stop : Option MemStop) →
-      Climbs (tags_of d n) level tree old engine tree' old engine None →
+  pub makes_after : {level : ℕ} {tree tree' : TreeView} {old new : BusHistory} {engine engine' : TagEngineView T} {accesses : List Access} {stop : Option MemStop} → Climbs (tags_of d n) level tree old engine tree' old engine None →
       Makes (tags_of d n engine) (λ used. HoldsTree (tags_of d n) tree' old engine) old engine new engine' accesses stop →
       Makes (tags_of d n engine) (λ used. HoldsTree (tags_of d n) tree old engine) old engine new engine' accesses stop
-  makes_after level tree tree' old new engine engine' accesses stop climbs makes =
+  makes_after {level} {tree} {tree'} {old} {new} {engine} {engine'} {accesses} {stop} climbs makes =
       makes_under (tags_of d n engine) (λ used. HoldsTree (tags_of d n) tree' old engine) (λ used. HoldsTree (tags_of d n) tree old engine)
       old new engine engine' accesses stop (λ used holds. climbs.holds holds (λ (e : None ≡ Some NoMemory). cc)) makes

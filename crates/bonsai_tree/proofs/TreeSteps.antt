@@ -48,9 +48,8 @@ steps_not d n Where tree history engine = record {
   came = λ holds quiet memory level index held. inl (held, refl);
   unread = λ holds quiet level index none. refl;
   written_back =
-      (up_same (EndsQuietly (tags_of d n) tree history engine engine) 1 NoNode tree tree history history engine.made engine.made None
-      (λ place. omega arith) refl (λ level index. refl)).back;
-  out_for = λ holds quiet going. out_kept tree tree history history engine.made (λ level index held. held);
+      (up_same {Own = NoNode} (λ place. omega arith) refl (λ level index. refl)).back;
+  out_for = λ holds quiet going. out_kept (λ level index held. held);
   nodes_had = λ going. nodes_none _ 1 tree history;
 }
 
@@ -67,7 +66,7 @@ steps_on d n Where tree mid tree' first second third engine engine' engine'' sto
     let both : List Message = steps.moves.more ++ more.moves.more in
     let all : moves.more ≡ both =
     sym (since_is engine.made engine''.made moves.more moves.made)
-    ∙ since_both engine.made engine'.made engine''.made steps.moves.more more.moves.more steps.moves.made more.moves.made in
+    ∙ since_both engine.made steps.moves.more more.moves.more steps.moves.made more.moves.made in
     record {
       moves = moves;
       lines = same_lines_on first second third engine.made engine'.made engine''.made steps.lines more.lines;
@@ -130,19 +129,17 @@ steps_on d n Where tree mid tree' first second third engine engine' engine'' sto
           more.unread (steps.holds holds going) quiet level index none
           ∙ steps.unread holds (still quiet) level index (unmade_before engine'.made engine''.made more.moves.more more.moves.made level index none);
       written_back =
-          back_on (EndsQuietly (tags_of d n) mid second engine' engine'') (EndsQuietly (tags_of d n) tree first engine engine')
-          (EndsQuietly (tags_of d n) tree first engine engine'') 1 tree mid tree' first second third engine.made engine'.made engine''.made stop
+          back_on
           steps.geometry steps.moves.reads more.moves.reads (λ calm. (calm.0, still calm.1)) (λ calm. (steps.holds calm.0 going, calm.1))
           steps.written_back more.written_back;
       out_for = λ holds quiet ended.
-          out_on tree mid tree' first second third engine.made engine'.made steps.geometry steps.moves.reads more.moves.reads unmade
+          out_on steps.geometry steps.moves.reads more.moves.reads unmade
           (steps.out_for holds (still quiet) refl) (more.out_for (steps.holds holds going) quiet ended);
       nodes_had = λ ended.
           subst (λ (made : List Message). NodesHad (MayBeHad tree.geometry Where made) 1 tree first tree' third) (sym all)
-          (nodes_on _ 1 tree mid tree' first second third
-          (nodes_wider _ _ 1 tree mid first second (λ level index high. may_wider tree.geometry tree.geometry steps.moves.more both refl
+          (nodes_on (nodes_wider _ _ (λ level index high. may_wider steps.moves.more both refl
           (Contains-append_left steps.moves.more more.moves.more) Where Where (λ place may. may) level index) (steps.nodes_had refl))
-          (nodes_wider _ _ 1 mid tree' second third (λ level index high. may_wider tree.geometry mid.geometry more.moves.more both steps.geometry
+          (nodes_wider _ _ (λ level index high. may_wider more.moves.more both steps.geometry
           (Contains-append_right steps.moves.more more.moves.more) Where Where (λ place may. may) level index) (more.nodes_had ended)));
     }
 
@@ -173,7 +170,7 @@ steps_where tags Where Wider tree tree' old new engine engine' stop wider steps 
   written_back = steps.written_back;
   out_for = steps.out_for;
   nodes_had = λ ended.
-      nodes_wider _ _ 1 tree tree' old new
-      (λ level index high. may_wider tree.geometry tree.geometry steps.moves.more steps.moves.more refl (λ message listed. listed) Where Wider wider level index)
+      nodes_wider _ _
+      (λ level index high. may_wider steps.moves.more steps.moves.more refl (λ message listed. listed) Where Wider wider level index)
       (steps.nodes_had ended);
 }

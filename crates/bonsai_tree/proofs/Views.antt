@@ -21,7 +21,7 @@ pub latest_cached : (tree : TreeView) (level index : ℕ) → AreNodeCaches tree
 latest_cached tree level index are some inside latest =
     some_copy (node_way tree.caches level index) (latest_held tree.geometry tree.caches level index are some inside latest)
 
-module _ (tree : TreeView) (root : List ℕ) (nodes nodes' : NodeCacheView) (view_is : tree_of root nodes ≡ tree) where
+module _ {tree : TreeView} (root : List ℕ) (nodes nodes' : NodeCacheView) (view_is : tree_of root nodes ≡ tree) where
   pub geometry_as : nodes'.geometry ≡ nodes.geometry → nodes'.geometry ≡ tree.geometry
   geometry_as same = same ∙ ap (λ (v : TreeView). v.geometry) view_is
 

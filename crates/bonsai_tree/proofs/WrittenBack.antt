@@ -200,8 +200,8 @@ turned_on : (first_made more_made had mid has unwritten first second third : ℕ
     RoseBy (more_made + has - (mid + unwritten)) second third → RoseBy (first_made + more_made + has - (had + unwritten)) first third
 turned_on first_made more_made had mid has unwritten first second third before after = omega (arith, before, after)
 
-child_left : (geometry : GeometryView) (front more : List Message) (level index : ℕ) → HasChild geometry front level index → HasChild geometry (front ++ more) level index
-child_left geometry front more level index child = record {
+child_left : {geometry : GeometryView} {front : List Message} (more : List Message) {level index : ℕ} → HasChild geometry front level index → HasChild geometry (front ++ more) level index
+child_left {geometry} {front} more {level} {index} child = record {
   below = child.below;
   child = child.child;
   block = child.block;
@@ -209,8 +209,8 @@ child_left geometry front more level index child = record {
   parent_is = child.parent_is;
 }
 
-child_right : (mid geometry : GeometryView) (front more : List Message) (level index : ℕ) → mid ≡ geometry → HasChild mid more level index → HasChild geometry (front ++ more) level index
-child_right mid geometry front more level index same child = record {
+child_right : {mid geometry : GeometryView} (front : List Message) {more : List Message} {level index : ℕ} → mid ≡ geometry → HasChild mid more level index → HasChild geometry (front ++ more) level index
+child_right {mid} {geometry} front {more} {level} {index} same child = record {
   below = child.below;
   child = child.child;
   block = child.block;
@@ -224,7 +224,7 @@ changed_before : (quiet : Type 0) (tree : TreeView) (old : BusHistory) (made : L
     (cached_node tree level index ≡ Some (record { block = block; changed = true })) ⊎ HasChild tree.geometry (front ++ more) level index
 changed_before quiet tree old made new front more level index block (inl was) = inl was
 changed_before quiet tree old made new front more level index block (inr (inl came)) = absurd (cc (came.0))
-changed_before quiet tree old made new front more level index block (inr (inr child)) = inr (child_left tree.geometry front more level index child)
+changed_before quiet tree old made new front more level index block (inr (inr child)) = inr (child_left more child)
 
 copy_on : (quiet calm : Type 0) (tree : TreeView) (first second third : BusHistory) (made front more : List Message) (level index : ℕ) (copy : CachedNode) →
     (calm → quiet) → ((place : Place) → RoseBy 0 (second.reads place) (third.reads place)) → IsCopyAfter quiet tree first made second front level index copy →
@@ -233,7 +233,7 @@ copy_on quiet calm tree first second third made front more level index copy soon
 copy_on quiet calm tree first second third made front more level index copy sooner after (inr (inl came)) =
     inr (inl (came.0, λ is. came_before made level index first second third after (came.1 (sooner is))))
 copy_on quiet calm tree first second third made front more level index copy sooner after (inr (inr child)) =
-    inr (inr (child_left tree.geometry front more level index child))
+    inr (inr (child_left more child))
 
 -- a victim had a changed copy
 victim_changed : (tree : TreeView) (level : ℕ) (way : Way) (stop : Option MemStop) (other at : ℕ) (block : List ℕ) →
@@ -284,17 +284,15 @@ marks_kept level index tree tree' here same other at was =
     elim (same_or_not level index other at) [
       | inr apart ↦ mark_same tree tree' other at (same other at apart) was
       | inl is ↦
-          subst (λ (k : ℕ). IsMarked tree' k at) (sym is.0) (subst (λ (i : ℕ). IsMarked tree' level i) (sym is.1)
-          (here (subst (λ (i : ℕ). IsMarked tree level i) is.1 (subst (λ (k : ℕ). IsMarked tree k at) is.0 was))))
+          rw (is.0, is.1) (here (subst (λ (i : ℕ). IsMarked tree level i) is.1 (subst (λ (k : ℕ). IsMarked tree k at) is.0 was)))
     ]
 
 -- nothing was made
-pub up_unmade : (quiet : Type 0) (from : ℕ) (Own : ℕ → ℕ → List ℕ → Type 0) (tree tree' : TreeView) (old new : BusHistory) (made made' : List Message) (stop : Option MemStop) →
-    ((place : Place) → RoseBy 0 (old.reads place) (new.reads place)) → made' ≡ made →
+pub up_unmade : {quiet : Type 0} {from : ℕ} {Own : ℕ → ℕ → List ℕ → Type 0} {tree tree' : TreeView} {old new : BusHistory} {made made' : List Message} {stop : Option MemStop} → ((place : Place) → RoseBy 0 (old.reads place) (new.reads place)) → made' ≡ made →
     ((level index : ℕ) (copy : CachedNode) → cached_node tree' level index ≡ Some copy →
     (cached_node tree level index ≡ Some copy) ⊎ ((copy.changed ≡ false) × (quiet → NodeCame made level index old new))) →
     ((level index : ℕ) → IsMarked tree level index → IsMarked tree' level index) → WritesUp quiet from Own tree old made tree' new made' stop
-up_unmade quiet from Own tree tree' old new made made' stop stays same copies marks =
+up_unmade {quiet} {from} {Own} {tree} {tree'} {old} {new} {made} {made'} {stop} stays same copies marks =
     let adds : made' ≡ made ++ [] = same ∙ sym (append-nil made) in
     record {
       back = record {
@@ -320,22 +318,19 @@ up_unmade quiet from Own tree tree' old new made made' stop stays same copies ma
     }
 
 -- and all copies are the same
-pub up_same : (quiet : Type 0) (from : ℕ) (Own : ℕ → ℕ → List ℕ → Type 0) (tree tree' : TreeView) (old new : BusHistory) (made made' : List Message) (stop : Option MemStop) →
-    ((place : Place) → RoseBy 0 (old.reads place) (new.reads place)) → made' ≡ made →
+pub up_same : {quiet : Type 0} {from : ℕ} {Own : ℕ → ℕ → List ℕ → Type 0} {tree tree' : TreeView} {old new : BusHistory} {made made' : List Message} {stop : Option MemStop} → ((place : Place) → RoseBy 0 (old.reads place) (new.reads place)) → made' ≡ made →
     ((level index : ℕ) → cached_node tree' level index ≡ cached_node tree level index) → WritesUp quiet from Own tree old made tree' new made' stop
-up_same quiet from Own tree tree' old new made made' stop stays unmade same =
-    up_unmade quiet from Own tree tree' old new made made' stop stays unmade (λ level index copy found. inl (sym (same level index) ∙ found))
+up_same {quiet} {from} {Own} {tree} {tree'} {old} {new} {made} {made'} {stop} stays unmade same =
+    up_unmade stays unmade (λ level index copy found. inl (sym (same level index) ∙ found))
     (λ level index. mark_same tree tree' level index (same level index))
 
 -- a node came, and is kept as a copy
-pub up_put : (quiet : Type 0) (from : ℕ) (Own : ℕ → ℕ → List ℕ → Type 0) (level index : ℕ) (block : List ℕ) (tree tree' : TreeView) (old new : BusHistory)
-    (made made' : List Message) (stop : Option MemStop) → ((place : Place) → RoseBy 0 (old.reads place) (new.reads place)) → made' ≡ made →
+pub up_put : {quiet : Type 0} {from : ℕ} {Own : ℕ → ℕ → List ℕ → Type 0} (level index : ℕ) (block : List ℕ) {tree tree' : TreeView} {old new : BusHistory} {made made' : List Message} {stop : Option MemStop} → ((place : Place) → RoseBy 0 (old.reads place) (new.reads place)) → made' ≡ made →
     cached_node tree level index ≡ None → cached_node tree' level index ≡ Some (record { block = block; changed = false }) →
     ((other at : ℕ) → ¬ (SameNode level index other at) → cached_node tree' other at ≡ cached_node tree other at) →
     (quiet → NodeCame made level index old new) → WritesUp quiet from Own tree old made tree' new made' stop
-up_put quiet from Own level index block tree tree' old new made made' stop stays unmade absent put same came =
-    up_unmade quiet from Own tree tree' old new made made' stop stays unmade
-    (λ other at copy found. elim (same_or_not level index other at) [
+up_put {quiet} {from} {Own} level index block {tree} {tree'} {old} {new} {made} {made'} {stop} stays unmade absent put same came =
+    up_unmade stays unmade (λ other at copy found. elim (same_or_not level index other at) [
       | inr apart ↦ inl (sym (same other at apart) ∙ found)
       | inl here ↦
           let is : Some (record { block = block; changed = false }) ≡ Some copy =
@@ -343,20 +338,18 @@ up_put quiet from Own level index block tree tree' old new made made' stop stays
           let unchanged : copy.changed ≡ false = cc in
           inr (
             unchanged,
-            λ calm. subst (λ (k : ℕ). NodeCame made k at old new) (sym here.0) (subst (λ (i : ℕ). NodeCame made level i old new) (sym here.1) (came calm)),
+            λ calm. rw (here.0, here.1) (came calm),
           )
-    ])
-    (marks_kept level index tree tree' (λ was.
+    ]) (marks_kept level index tree tree' (λ was.
     let none : None ≡ Some true = sym (ap (option_map (λ (copy : CachedNode). copy.changed)) absent) ∙ was in absurd (cc)) same)
 
 -- a node was made, and no copy changed but that of the node above it
-pub up_made : (quiet : Type 0) (level index : ℕ) (block : List ℕ) (tree tree' : TreeView) (old new : BusHistory) (made made' : List Message) (stop : Option MemStop) →
-    ((place : Place) → RoseBy 0 (old.reads place) (new.reads place)) → made' ≡ made ++ Node level index block ∷ [] →
+pub up_made : {quiet : Type 0} (level index : ℕ) (block : List ℕ) {tree tree' : TreeView} {old new : BusHistory} {made made' : List Message} {stop : Option MemStop} → ((place : Place) → RoseBy 0 (old.reads place) (new.reads place)) → made' ≡ made ++ Node level index block ∷ [] →
     ((other at : ℕ) → ¬ (SameNode (level + 1) (index / arity tree.geometry) other at) → cached_node tree' other at ≡ cached_node tree other at) →
     ((other at : ℕ) → cached_node tree' other at ≢ None → cached_node tree other at ≢ None) →
     (IsMarked tree (level + 1) (index / arity tree.geometry) → IsMarked tree' (level + 1) (index / arity tree.geometry)) →
     WritesUp quiet (level + 1) (IsBlockOf level index block) tree old made tree' new made' stop
-up_made quiet level index block tree tree' old new made made' stop stays is same held marks =
+up_made {quiet} level index block {tree} {tree'} {old} {new} {made} {made'} {stop} stays is same held marks =
     let not_high : (other at : ℕ) (bytes : List ℕ) → level + 1 ≤ other → Contains (Node level index block ∷ []) (Node other at bytes) → ⊥ =
     λ other at bytes high listed.
     let one : Node level index block ≡ Node other at bytes = one_in (Node other at bytes) (Node level index block) listed in
@@ -377,8 +370,7 @@ up_made quiet level index block tree tree' old new made made' stop stays is same
           | inl here ↦
               let child : HasChild tree.geometry (Node level index block ∷ []) (level + 1) (index / arity tree.geometry) =
               record { below = level; child = index; block = block; listed = Contains-push [] (Node level index block); parent_is = refl } in
-              inr (inr (subst (λ (k : ℕ). HasChild tree.geometry (Node level index block ∷ []) k at) (sym here.0)
-              (subst (λ (i : ℕ). HasChild tree.geometry (Node level index block ∷ []) (level + 1) i) (sym here.1) child)))
+              inr (inr (rw (here.0, here.1) child))
         ];
       };
       own = λ other at bytes low listed.
@@ -391,11 +383,10 @@ up_made quiet level index block tree tree' old new made made' stop stays is same
     }
 
 -- of levels further up
-pub up_wider : (quiet : Type 0) (from more_from : ℕ) (tree tree' : TreeView) (old new : BusHistory) (made made' : List Message) (stop : Option MemStop) →
-    from ≤ more_from → ((place : Place) → RoseBy 0 (old.reads place) (new.reads place)) →
+pub up_wider : {quiet : Type 0} {from more_from : ℕ} {tree tree' : TreeView} {old new : BusHistory} {made made' : List Message} {stop : Option MemStop} → from ≤ more_from → ((place : Place) → RoseBy 0 (old.reads place) (new.reads place)) →
     ((level index : ℕ) → level < more_from → cached_node tree' level index ≡ cached_node tree level index) →
     WritesUp quiet more_from NoNode tree old made tree' new made' stop → WritesUp quiet from NoNode tree old made tree' new made' stop
-up_wider quiet from more_from tree tree' old new made made' stop wider stays below up = record {
+up_wider {quiet} {from} {more_from} {tree} {tree'} {old} {new} {made} {made'} {stop} wider stays below up = record {
   back = record {
     more = up.back.more;
     made_more = up.back.made_more;
@@ -418,23 +409,21 @@ up_wider quiet from more_from tree tree' old new made made' stop wider stays bel
 }
 
 -- what may be made below is among more
-pub up_as : (quiet : Type 0) (from : ℕ) (Own All : ℕ → ℕ → List ℕ → Type 0) (tree tree' : TreeView) (old new : BusHistory) (made made' : List Message) (stop : Option MemStop) →
-    ((level index : ℕ) (block : List ℕ) → Own level index block → All level index block) →
+pub up_as : {quiet : Type 0} {from : ℕ} {Own All : ℕ → ℕ → List ℕ → Type 0} {tree tree' : TreeView} {old new : BusHistory} {made made' : List Message} {stop : Option MemStop} → ((level index : ℕ) (block : List ℕ) → Own level index block → All level index block) →
     WritesUp quiet from Own tree old made tree' new made' stop → WritesUp quiet from All tree old made tree' new made' stop
-up_as quiet from Own All tree tree' old new made made' stop among up = record {
+up_as {quiet} {from} {Own} {All} {tree} {tree'} {old} {new} {made} {made'} {stop} among up = record {
   back = up.back;
   own = λ level index block low listed. among level index block (up.own level index block low listed);
   once = up.once;
 }
 
 -- one call after another
-pub back_on : (quiet early calm : Type 0) (from : ℕ) (tree mid tree' : TreeView) (first second third : BusHistory) (made made' made'' : List Message) (stop : Option MemStop) →
-    mid.geometry ≡ tree.geometry →
+pub back_on : {quiet early calm : Type 0} {from : ℕ} {tree mid tree' : TreeView} {first second third : BusHistory} {made made' made'' : List Message} {stop : Option MemStop} → mid.geometry ≡ tree.geometry →
     ((place : Place) → RoseBy 0 (first.reads place) (second.reads place)) → ((place : Place) → RoseBy 0 (second.reads place) (third.reads place)) →
     (calm → early) → (calm → quiet) →
     WritesBack early from tree first made mid second made' None → WritesBack quiet from mid second made' tree' third made'' stop →
     WritesBack calm from tree first made tree' third made'' stop
-back_on quiet early calm from tree mid tree' first second third made made' made'' stop geometry before after sooner later back next =
+back_on {quiet} {early} {calm} {from} {tree} {mid} {tree'} {first} {second} {third} {made} {made'} {made''} {stop} geometry before after sooner later back next =
     let sum : (level index : ℕ) → times_made level index (back.more ++ next.more) ≡ times_made level index back.more + times_made level index next.more =
     λ level index. made_on level index back.more next.more in
     record {
@@ -443,11 +432,11 @@ back_on quiet early calm from tree mid tree' first second third made made' made'
       changed = λ level index block high listed. elim (Contains-append_cases back.more next.more (Node level index block) listed) [
         | inl sooner_listed ↦ elim (back.changed level index block high sooner_listed) [
           | inl was ↦ inl was
-          | inr child ↦ inr (child_left tree.geometry back.more next.more level index child)
+          | inr child ↦ inr (child_left next.more child)
         ]
         | inr late ↦ elim (next.changed level index block high late) [
           | inl was ↦ changed_before early tree first made second back.more next.more level index block (back.copies level index (record { block = block; changed = true }) was)
-          | inr child ↦ inr (child_right mid.geometry tree.geometry back.more next.more level index geometry child)
+          | inr child ↦ inr (child_right back.more geometry child)
         ]
       ];
       once_a_copy = λ is level index high.
@@ -473,21 +462,20 @@ back_on quiet early calm from tree mid tree' first second third made made' made'
             λ is. came_after made made' level index first second third before
                 (unmade_before made made' back.more back.made_more level index) (came.1 (later is)),
           ))
-          | inr child ↦ inr (inr (child_right mid.geometry tree.geometry back.more next.more level index geometry child))
+          | inr child ↦ inr (inr (child_right back.more geometry child))
         ]
       ];
     }
 
 -- of which the first makes nothing below
-pub up_on : (quiet early calm : Type 0) (from : ℕ) (Own : ℕ → ℕ → List ℕ → Type 0) (tree mid tree' : TreeView) (first second third : BusHistory) (made made' made'' : List Message) (stop : Option MemStop) →
-    mid.geometry ≡ tree.geometry →
+pub up_on : {quiet early calm : Type 0} {from : ℕ} {Own : ℕ → ℕ → List ℕ → Type 0} {tree mid tree' : TreeView} {first second third : BusHistory} {made made' made'' : List Message} {stop : Option MemStop} → mid.geometry ≡ tree.geometry →
     ((place : Place) → RoseBy 0 (first.reads place) (second.reads place)) → ((place : Place) → RoseBy 0 (second.reads place) (third.reads place)) →
     (calm → early) → (calm → quiet) →
     WritesUp early from NoNode tree first made mid second made' None → WritesUp quiet from Own mid second made' tree' third made'' stop →
     WritesUp calm from Own tree first made tree' third made'' stop
 unfolding back_on
-up_on quiet early calm from Own tree mid tree' first second third made made' made'' stop geometry before after sooner later up more = record {
-  back = back_on quiet early calm from tree mid tree' first second third made made' made'' stop geometry before after sooner later up.back more.back;
+up_on {quiet} {early} {calm} {from} {Own} {tree} {mid} {tree'} {first} {second} {third} {made} {made'} {made''} {stop} geometry before after sooner later up more = record {
+  back = back_on geometry before after sooner later up.back more.back;
   own = λ level index block low listed. elim (Contains-append_cases up.back.more more.back.more (Node level index block) listed) [
     | inl early_listed ↦ absurd (up.own level index block low early_listed)
     | inr late ↦ more.own level index block low late
@@ -502,22 +490,18 @@ up_on quiet early calm from Own tree mid tree' first second third made made' mad
 }
 
 -- and both make of the tree what such calls make
-pub up_climbed : {T : Type 0} (d n : T → List ℕ → List ℕ) (low from : ℕ) (Own : ℕ → ℕ → List ℕ → Type 0) (tree mid tree' : TreeView) (first second third : BusHistory)
-    (engine engine' engine'' : TagEngineView T) (stop : Option MemStop) → Climbs (tags_of d n) low tree first engine mid second engine' None →
+pub up_climbed : {T : Type 0} (d n : T → List ℕ → List ℕ) {low from : ℕ} {Own : ℕ → ℕ → List ℕ → Type 0} {tree mid tree' : TreeView} {first second third : BusHistory} {engine engine' engine'' : TagEngineView T} {stop : Option MemStop} → Climbs (tags_of d n) low tree first engine mid second engine' None →
     Moves second engine' third engine'' →
     WritesUp (EndsQuietly (tags_of d n) tree first engine engine') from NoNode tree first engine.made mid second engine'.made None →
     WritesUp (EndsQuietly (tags_of d n) mid second engine' engine'') from Own mid second engine'.made tree' third engine''.made stop →
     WritesUp (EndsQuietly (tags_of d n) tree first engine engine'') from Own tree first engine.made tree' third engine''.made stop
-up_climbed d n low from Own tree mid tree' first second third engine engine' engine'' stop climbs moves up more =
-    up_on (EndsQuietly (tags_of d n) mid second engine' engine'') (EndsQuietly (tags_of d n) tree first engine engine')
-    (EndsQuietly (tags_of d n) tree first engine engine'') from Own tree mid tree' first second third engine.made engine'.made engine''.made stop
-    climbs.geometry climbs.moves.reads moves.reads
+up_climbed d n {low} {from} {Own} {tree} {mid} {tree'} {first} {second} {third} {engine} {engine'} {engine''} {stop} climbs moves up more =
+    up_on climbs.geometry climbs.moves.reads moves.reads
     (λ calm. (calm.0, was_none engine'.evidence engine''.evidence moves.evidence calm.1))
     (λ calm. (climbs.holds calm.0 (λ (e : None ≡ Some NoMemory). cc), calm.1)) up more
 
 -- a copy that went out, or that could not be written
-pub up_victim : (quiet : Type 0) (level : ℕ) (way : Way) (tree mid tree' : TreeView) (old new : BusHistory) (made made' : List Message) (stop : Option MemStop) →
-    ((place : Place) → RoseBy 0 (old.reads place) (new.reads place)) →
+pub up_victim : {quiet : Type 0} {level : ℕ} (way : Way) {tree mid tree' : TreeView} {old new : BusHistory} {made made' : List Message} {stop : Option MemStop} → ((place : Place) → RoseBy 0 (old.reads place) (new.reads place)) →
     cached_node tree level way.place ≡ Some (copy_of way) →
     ((at : ℕ) → cached_node mid level at ≡ cached_node tree level at) →
     (stop ≡ None → cached_node tree' level way.place ≡ None) →
@@ -525,14 +509,12 @@ pub up_victim : (quiet : Type 0) (level : ℕ) (way : Way) (tree mid tree' : Tre
     ((other at : ℕ) → ¬ (SameNode level way.place other at) → cached_node tree' other at ≡ cached_node mid other at) →
     (way.changed ≡ true → (IsMarked mid level way.place → IsMarked tree' level way.place) ⊎ (times_made level way.place made < times_made level way.place made')) →
     WritesUp quiet (level + 1) (IsVictim level way stop) tree old made mid new made' stop → WritesUp quiet level NoNode tree old made tree' new made' stop
-up_victim quiet level way tree mid tree' old new made made' stop stays held beside left fewer same written up =
+up_victim {quiet} {level} way {tree} {mid} {tree'} {old} {new} {made} {made'} {stop} stays held beside left fewer same written up =
     let before : (other at : ℕ) (copy : CachedNode) → cached_node tree' other at ≡ Some copy → cached_node mid other at ≡ Some copy =
     λ other at copy found. elim (same_or_not level way.place other at) [
       | inr apart ↦ sym (same other at apart) ∙ found
       | inl here ↦
-          subst (λ (k : ℕ). cached_node mid k at ≡ Some copy) (sym here.0)
-          (subst (λ (i : ℕ). cached_node mid level i ≡ Some copy) (sym here.1)
-          (fewer copy (sym (ap (λ (k : ℕ). cached_node tree' k at) here.0 ∙ ap (λ (i : ℕ). cached_node tree' level i) here.1) ∙ found)))
+          rw (here.0, here.1) (fewer copy (sym (ap (λ (k : ℕ). cached_node tree' k at) here.0 ∙ ap (λ (i : ℕ). cached_node tree' level i) here.1) ∙ found))
     ] in
     let own_level : RoseBy (times_made level way.place up.back.more + unread_count (cached_node tree' level way.place) (last_node level way.place made')
     - (unread_count (cached_node tree level way.place) (last_node level way.place made) + unwritten_in stop))
@@ -587,9 +569,8 @@ up_victim quiet level way tree mid tree' old new made made' stop stays held besi
         unmarked = λ other at was gone. elim (same_or_not level way.place other at) [
           | inr apart ↦ up.back.unmarked other at was (λ marked. gone (mark_same mid tree' other at (same other at apart) marked))
           | inl here ↦
-              subst (λ (k : ℕ). 0 < times_made k at up.back.more) (sym here.0) (subst (λ (i : ℕ). 0 < times_made level i up.back.more) (sym here.1)
-              (own_made (subst (λ (i : ℕ). IsMarked tree level i) here.1 (subst (λ (k : ℕ). IsMarked tree k at) here.0 was))
-              (λ marked. gone (subst (λ (k : ℕ). IsMarked tree' k at) (sym here.0) (subst (λ (i : ℕ). IsMarked tree' level i) (sym here.1) marked)))))
+              rw (here.0, here.1) (own_made (subst (λ (i : ℕ). IsMarked tree level i) here.1 (subst (λ (k : ℕ). IsMarked tree k at) here.0 was))
+              (λ marked. gone (rw (here.0, here.1) marked)))
         ];
         copies = λ other at copy found. up.back.copies other at copy (before other at copy found);
       };

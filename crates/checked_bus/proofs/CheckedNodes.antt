@@ -1,5 +1,5 @@
 -- What a checked read of a node makes of a bus and a tag engine.
-use Rattle.std.proofs.Common.{◌≡◌, ◌≢◌, ℕ, ◌<◌, inr, true, List, [], ◌∷◌, length, Option, Some, None, IfSome, Result, Ok, Err, refl, ap, sym, ◌∙◌, subst, arith}
+use Rattle.std.proofs.Common.{◌≡◌, ◌≢◌, ℕ, ◌<◌, inl, inr, true, List, [], ◌∷◌, length, Option, Some, None, IfSome, Result, Ok, Err, refl, ap, sym, ◌∙◌, subst, arith}
 use Rattle.std.specs.Option.{option_map, option_or}
 use Rattle.std.specs.Result.{result_err}
 use Rattle.std.proofs.lemmas.Option.{same_Some}
@@ -28,62 +28,56 @@ use Rattle.checked_bus.specs.Makes.{IsShownIn, ReadsPlace}
 use Rattle.checked_bus.specs.Steps.{IsAccounted, IsCurrentNode, Moves, ReadsOnce, SameLines, SamePlace}
 use Rattle.checked_bus.proofs.FalseAnswers.{lie_comes, lie_rises, first_lie_stays}
 use Rattle.checked_bus.proofs.Evidences.{first_stays, by_evidence, none_found}
-use Rattle.checked_bus.proofs.PlaceReads.{answer_makes, answer_moves, answer_once, answer_others, answer_lines, answer_accounted, nothing_moves, nothing_once, nothing_others, nothing_lines, told_last}
-use Rattle.checked_bus.proofs.CheckedReads.{tampered, none_lied, still_honest, nothing_accounted}
+use Rattle.checked_bus.proofs.PlaceReads.{IsRead, answer_makes, place_lines, place_moves, place_once, place_others, told_last}
+use Rattle.checked_bus.proofs.CheckedReads.{accounted_after, tampered, none_lied, still_honest, nothing_accounted}
 
 pub no_line : (level index line : ℕ) → line_place line ≢ node_place level index
 no_line level index line same = absurd (cc)
 
 module _ {T : Type 0} (tag_of : Message → List ℕ) (level index : ℕ) (tag : List ℕ) (history history' : BusHistory)
     (engine engine' : TagEngineView T) where
+  node_is : (result : Result (List ℕ) MemStop) → IsCheckedNode tag_of level index tag history history' engine engine' result →
+      IsRead (node_place level index) history history' engine engine' (result_err result)
+  node_is (Ok answer) passed =
+      let shown : Option Evidence = collision_of tag_of engine.made level index passed.block tag true in
+      inl (
+        record {
+          bytes = passed.block;
+          shown = option_or engine.evidence shown;
+          answered = passed.answered;
+          engine_is = passed.checked;
+          first = first_stays engine.evidence shown;
+        },
+        λ none. cc,
+      )
+  node_is (Err (Spent page)) read = absurd read
+  node_is (Err NoMemory) read = inr (read.0, read.1, refl)
+  node_is (Err (Tampered place)) read = inl (
+    record {
+      bytes = read.1.block;
+      shown = engine.evidence;
+      answered = read.1.answered;
+      engine_is = read.1.unchanged;
+      first = λ evidence is. is;
+    },
+    λ none. cc,
+  )
+
   pub node_moves : (result : Result (List ℕ) MemStop) → IsCheckedNode tag_of level index tag history history' engine engine' result →
       Moves history engine history' engine'
-  node_moves (Ok answer) passed =
-      answer_moves (node_place level index) passed.block history history' engine engine' passed.answered
-      (ap (λ (e : TagEngineView T). e.geometry) passed.checked) (ap (λ (e : TagEngineView T). e.tagger) passed.checked)
-      (ap (λ (e : TagEngineView T). e.made) passed.checked)
-      (λ evidence is. ap (λ (e : TagEngineView T). e.evidence) passed.checked
-      ∙ first_stays engine.evidence (collision_of tag_of engine.made level index passed.block tag true) evidence is)
-  node_moves (Err (Spent page)) read = absurd read
-  node_moves (Err NoMemory) read = nothing_moves history history' engine engine' read.0 read.1
-  node_moves (Err (Tampered place)) read =
-      answer_moves (node_place level index) read.1.block history history' engine engine' read.1.answered
-      (ap (λ (e : TagEngineView T). e.geometry) read.1.unchanged) (ap (λ (e : TagEngineView T). e.tagger) read.1.unchanged)
-      (ap (λ (e : TagEngineView T). e.made) read.1.unchanged)
-      (λ evidence is. ap (λ (e : TagEngineView T). e.evidence) read.1.unchanged ∙ is)
+  node_moves result read = place_moves (node_place level index) history history' engine engine' (result_err result) (node_is result read)
 
   pub node_once : (result : Result (List ℕ) MemStop) → IsCheckedNode tag_of level index tag history history' engine engine' result →
       ReadsOnce (node_place level index) history engine history' engine' (result_err result)
-  node_once (Ok answer) passed =
-      answer_once (node_place level index) passed.block history history' engine engine' None passed.answered
-      (ap (λ (e : TagEngineView T). e.made) passed.checked) (ap (λ (e : TagEngineView T). e.room) passed.checked) (λ none. cc)
-  node_once (Err (Spent page)) read = absurd read
-  node_once (Err NoMemory) read = nothing_once (node_place level index) history history' engine engine' read.0 read.1
-  node_once (Err (Tampered place)) read =
-      answer_once (node_place level index) read.1.block history history' engine engine' (Some (Tampered place)) read.1.answered
-      (ap (λ (e : TagEngineView T). e.made) read.1.unchanged) (ap (λ (e : TagEngineView T). e.room) read.1.unchanged) (λ none. cc)
+  node_once result read = place_once (node_place level index) history history' engine engine' (result_err result) (node_is result read)
 
   pub node_others : (result : Result (List ℕ) MemStop) (other : Place) → other ≢ node_place level index →
       IsCheckedNode tag_of level index tag history history' engine engine' result → SamePlace other history engine.made history' engine'.made
-  node_others (Ok answer) other apart passed =
-      answer_others (node_place level index) passed.block history history' engine engine' other passed.answered
-      (ap (λ (e : TagEngineView T). e.made) passed.checked) apart
-  node_others (Err (Spent page)) other apart read = absurd read
-  node_others (Err NoMemory) other apart read = nothing_others other history history' engine engine' read.0 read.1
-  node_others (Err (Tampered place)) other apart read =
-      answer_others (node_place level index) read.1.block history history' engine engine' other read.1.answered
-      (ap (λ (e : TagEngineView T). e.made) read.1.unchanged) apart
+  node_others result other apart read = place_others (node_place level index) history history' engine engine' (result_err result) other apart (node_is result read)
 
   pub node_lines : (result : Result (List ℕ) MemStop) → IsCheckedNode tag_of level index tag history history' engine engine' result →
       SameLines history engine.made history' engine'.made
-  node_lines (Ok answer) passed =
-      answer_lines (node_place level index) passed.block history history' engine engine' passed.answered
-      (ap (λ (e : TagEngineView T). e.made) passed.checked) (no_line level index)
-  node_lines (Err (Spent page)) read = absurd read
-  node_lines (Err NoMemory) read = nothing_lines history history' engine engine' read.0 read.1
-  node_lines (Err (Tampered place)) read =
-      answer_lines (node_place level index) read.1.block history history' engine engine' read.1.answered
-      (ap (λ (e : TagEngineView T). e.made) read.1.unchanged) (no_line level index)
+  node_lines result read = place_lines (node_place level index) history history' engine engine' (result_err result) (no_line level index) (node_is result read)
 
   shown_here : (answer : List ℕ) (passed : PassedNode tag_of level index tag history history' engine engine' answer) → engine.evidence ≡ None →
       engine'.evidence ≡ collision_of tag_of engine.made level index passed.block tag true
@@ -109,21 +103,6 @@ module _ {T : Type 0} (tag_of : Message → List ℕ) (level index : ℕ) (tag :
       let same : engine'.evidence ≡ None = ap (λ (e : TagEngineView T). e.evidence) read.1 ∙ quiet in absurd (cc)
   stopped_quiet (Tampered place) evidence read quiet shown =
       let same : engine'.evidence ≡ None = ap (λ (e : TagEngineView T). e.evidence) read.1.unchanged ∙ quiet in absurd (cc)
-
-  -- With evidence from before, under any tag
-
-  after_evidence : (used : List (ℕ × Counter)) (first : Evidence) → engine.evidence ≡ Some first → (result : Result (List ℕ) MemStop) →
-      IsCheckedNode tag_of level index tag history history' engine engine' result → IsAccounted tag_of used engine.made history None engine.evidence →
-      IsAccounted tag_of used engine'.made history' (result_err result) engine'.evidence
-  after_evidence used first before (Ok answer) passed was =
-      let moves : Moves history engine history' engine' = node_moves (Ok answer) passed in
-      answer_accounted (node_place level index) passed.block history history' engine engine' tag_of used None first passed.answered
-      (ap (λ (e : TagEngineView T). e.made) passed.checked) before (moves.evidence first before) was
-  after_evidence used first before (Err (Spent page)) read was = absurd read
-  after_evidence used first before (Err NoMemory) read was = nothing_accounted tag_of used history history' engine engine' read.0 read.1 was
-  after_evidence used first before (Err (Tampered place)) read was =
-      answer_accounted (node_place level index) read.1.block history history' engine engine' tag_of used (Some (Tampered place)) first read.1.answered
-      (ap (λ (e : TagEngineView T). e.made) read.1.unchanged) before (ap (λ (e : TagEngineView T). e.evidence) read.1.unchanged ∙ before) was
 
   -- Under the tag of the node's last block
 
@@ -266,7 +245,7 @@ module _ {T : Type 0} (tag_of : Message → List ℕ) (level index : ℕ) (tag :
       IsAccounted tag_of used engine'.made history' (result_err result) engine'.evidence
   node_honest used current result read was =
       by_evidence engine.evidence (λ none. node_accounted (current none) used result read was)
-      (λ first before. after_evidence used first before result read was)
+      (λ first before. accounted_after (node_place level index) history history' engine engine' (result_err result) tag_of used first before (node_is result read) was)
 
   -- a collision is with a message that was made before
   made_before : {block under : List ℕ} {evidence : Evidence} (found : Collides tag_of engine.made level index block under evidence) → found.at < length engine.made

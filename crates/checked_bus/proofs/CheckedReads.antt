@@ -34,7 +34,7 @@ use Rattle.checked_bus.specs.Steps.{IsAccounted, IsCurrent, Moves, ReadsOnce, Sa
 use Rattle.checked_bus.proofs.LineMessages.{last_made, last_pair-some}
 use Rattle.checked_bus.proofs.FalseAnswers.{lie_comes, lie_rises, first_lie_stays}
 use Rattle.checked_bus.proofs.Evidences.{shown_is, first_stays, by_evidence, none_found}
-use Rattle.checked_bus.proofs.PlaceReads.{answer_makes, answer_moves, answer_once, answer_others, answer_accounted, nothing_makes, nothing_moves, nothing_once, nothing_others, told_last}
+use Rattle.checked_bus.proofs.PlaceReads.{IsRead, answer_accounted, answer_makes, nothing_makes, place_moves, place_once, place_others, told_last}
 
 -- the tags of lines are 16 bytes long
 pub line_tags_long : {T : Type 0} (data_tag_of node_tag_of : T → List ℕ → List ℕ) (engine : TagEngineView T) (line : ℕ) (counter : Counter) →
@@ -94,6 +94,16 @@ nothing_accounted {T} tag_of used history history' engine engine' same unchanged
     (subst (λ (e : TagEngineView T). IsAccounted tag_of used e.made history (Some NoMemory) e.evidence) (sym unchanged)
     (ended_accounted tag_of used engine.made history NoMemory engine.evidence (λ place is. cc) was))
 
+-- With evidence from before it is told by what that shows
+pub accounted_after : {T : Type 0} (place : Place) (history history' : BusHistory) (engine engine' : TagEngineView T) (stop : Option MemStop)
+    (tag_of : Message → List ℕ) (used : List (ℕ × Counter)) (first : Evidence) → engine.evidence ≡ Some first → IsRead place history history' engine engine' stop →
+    IsAccounted tag_of used engine.made history None engine.evidence → IsAccounted tag_of used engine'.made history' stop engine'.evidence
+accounted_after place history history' engine engine' stop tag_of used first before (inl (read, remembered)) was =
+    answer_accounted place history history' engine engine' stop tag_of used first before read was
+accounted_after place history history' engine engine' stop tag_of used first before (inr (same, unchanged, refused)) was =
+    subst (λ (s : Option MemStop). IsAccounted tag_of used engine'.made history' s engine'.evidence) (sym refused)
+    (nothing_accounted tag_of used history history' engine engine' same unchanged was)
+
 -- A read that there was no memory for is no access
 pub refused_makes : {T : Type 0} (tag_of : Message → List ℕ) (expected : List (ℕ × Counter) → Type 0) (place : Place) (history history' : BusHistory)
     (engine engine' : TagEngineView T) (result : Result (List ℕ) MemStop) → result ≡ Err NoMemory → history' ≡ history → engine' ≡ engine →
@@ -111,45 +121,46 @@ refused_makes {T} tag_of expected place history history' engine engine' result i
 
 module _ {T : Type 0} (tag_of : Message → List ℕ) (line : ℕ) (counter : Counter) (history history' : BusHistory)
     (engine engine' : TagEngineView T) where
+  read_is : (result : Result (List ℕ) MemStop) → IsCheckedRead tag_of line counter history history' engine engine' result →
+      IsRead (line_place line) history history' engine engine' (result_err result)
+  read_is (Ok cipher) passed =
+      let shown : Option Evidence = forgery_of engine.made line counter passed.sealed true in
+      inl (
+        record {
+          bytes = sealed_bytes passed.sealed;
+          shown = option_or engine.evidence shown;
+          answered = passed.answered;
+          engine_is = passed.checked;
+          first = first_stays engine.evidence shown;
+        },
+        λ none. cc,
+      )
+  read_is (Err (Spent page)) read = absurd read
+  read_is (Err NoMemory) read = inr (read.0, read.1, refl)
+  read_is (Err (Tampered place)) read = inl (
+    record {
+      bytes = sealed_bytes read.1.sealed;
+      shown = engine.evidence;
+      answered = read.1.answered;
+      engine_is = read.1.unchanged;
+      first = λ evidence is. is;
+    },
+    λ none. cc,
+  )
+
   pub read_moves : (result : Result (List ℕ) MemStop) → IsCheckedRead tag_of line counter history history' engine engine' result →
       Moves history engine history' engine'
-  read_moves (Ok cipher) passed =
-      answer_moves (line_place line) (sealed_bytes passed.sealed) history history' engine engine' passed.answered (ap (λ (e : TagEngineView T). e.geometry) passed.checked)
-      (ap (λ (e : TagEngineView T). e.tagger) passed.checked) (ap (λ (e : TagEngineView T). e.made) passed.checked)
-      (λ evidence is. ap (λ (e : TagEngineView T). e.evidence) passed.checked
-      ∙ first_stays engine.evidence (forgery_of engine.made line counter passed.sealed true) evidence is)
-  read_moves (Err (Spent page)) read = absurd read
-  read_moves (Err NoMemory) read = nothing_moves history history' engine engine' read.0 read.1
-  read_moves (Err (Tampered place)) read =
-      answer_moves (line_place line) (sealed_bytes read.1.sealed) history history' engine engine' read.1.answered (ap (λ (e : TagEngineView T). e.geometry) read.1.unchanged)
-      (ap (λ (e : TagEngineView T). e.tagger) read.1.unchanged) (ap (λ (e : TagEngineView T). e.made) read.1.unchanged)
-      (λ evidence is. ap (λ (e : TagEngineView T). e.evidence) read.1.unchanged ∙ is)
+  read_moves result read = place_moves (line_place line) history history' engine engine' (result_err result) (read_is result read)
 
   -- It is one read
-
   pub read_once : (result : Result (List ℕ) MemStop) → IsCheckedRead tag_of line counter history history' engine engine' result →
       ReadsOnce (line_place line) history engine history' engine' (result_err result)
-  read_once (Ok cipher) passed =
-      answer_once (line_place line) (sealed_bytes passed.sealed) history history' engine engine' None passed.answered
-      (ap (λ (e : TagEngineView T). e.made) passed.checked) (ap (λ (e : TagEngineView T). e.room) passed.checked) (λ none. cc)
-  read_once (Err (Spent page)) read = absurd read
-  read_once (Err NoMemory) read = nothing_once (line_place line) history history' engine engine' read.0 read.1
-  read_once (Err (Tampered place)) read =
-      answer_once (line_place line) (sealed_bytes read.1.sealed) history history' engine engine' (Some (Tampered place)) read.1.answered
-      (ap (λ (e : TagEngineView T). e.made) read.1.unchanged) (ap (λ (e : TagEngineView T). e.room) read.1.unchanged) (λ none. cc)
+  read_once result read = place_once (line_place line) history history' engine engine' (result_err result) (read_is result read)
 
   -- No other place is touched
-
   pub read_others : (result : Result (List ℕ) MemStop) (other : Place) → other ≢ line_place line →
       IsCheckedRead tag_of line counter history history' engine engine' result → SamePlace other history engine.made history' engine'.made
-  read_others (Ok cipher) other differs passed =
-      answer_others (line_place line) (sealed_bytes passed.sealed) history history' engine engine' other passed.answered
-      (ap (λ (e : TagEngineView T). e.made) passed.checked) differs
-  read_others (Err (Spent page)) other differs read = absurd read
-  read_others (Err NoMemory) other differs read = nothing_others other history history' engine engine' read.0 read.1
-  read_others (Err (Tampered place)) other differs read =
-      answer_others (line_place line) (sealed_bytes read.1.sealed) history history' engine engine' other read.1.answered
-      (ap (λ (e : TagEngineView T). e.made) read.1.unchanged) differs
+  read_others result other differs read = place_others (line_place line) history history' engine engine' (result_err result) other differs (read_is result read)
 
   -- What passed though it was never tagged is answered
   pub read_accepted : (cipher : List ℕ) (at : ℕ) (under : Counter) (sealed : Sealed) (made_count : ℕ) →
@@ -164,21 +175,6 @@ module _ {T : Type 0} (tag_of : Message → List ℕ) (line : ℕ) (counter : Co
       (shown_is engine.made line counter passed.sealed (Forgery at under sealed made_count) is).0 in
       let sealed_is : sealed ≡ passed.sealed = cc in
       (cc, cc, passed.given ∙ ap (λ (s : Sealed). s.cipher) (sym sealed_is))
-
-  -- With evidence from before, under any counter
-
-  after_evidence : (used : List (ℕ × Counter)) (first : Evidence) → engine.evidence ≡ Some first → (result : Result (List ℕ) MemStop) →
-      IsCheckedRead tag_of line counter history history' engine engine' result → IsAccounted tag_of used engine.made history None engine.evidence →
-      IsAccounted tag_of used engine'.made history' (result_err result) engine'.evidence
-  after_evidence used first before (Ok cipher) passed was =
-      let moves : Moves history engine history' engine' = read_moves (Ok cipher) passed in
-      answer_accounted (line_place line) (sealed_bytes passed.sealed) history history' engine engine' tag_of used None first passed.answered
-      (ap (λ (e : TagEngineView T). e.made) passed.checked) before (moves.evidence first before) was
-  after_evidence used first before (Err (Spent page)) read was = absurd read
-  after_evidence used first before (Err NoMemory) read was = nothing_accounted tag_of used history history' engine engine' read.0 read.1 was
-  after_evidence used first before (Err (Tampered place)) read was =
-      answer_accounted (line_place line) (sealed_bytes read.1.sealed) history history' engine engine' tag_of used (Some (Tampered place)) first read.1.answered
-      (ap (λ (e : TagEngineView T). e.made) read.1.unchanged) before (ap (λ (e : TagEngineView T). e.evidence) read.1.unchanged ∙ before) was
 
   -- Under a line's last counter
 
@@ -351,7 +347,7 @@ module _ {T : Type 0} (tag_of : Message → List ℕ) (line : ℕ) (counter : Co
       IsAccounted tag_of used engine'.made history' (result_err result) engine'.evidence
   read_honest tag_long used current result read was =
       by_evidence engine.evidence (λ none. read_accounted tag_long used (current none) result read was)
-      (λ first before. after_evidence used first before result read was)
+      (λ first before. accounted_after (line_place line) history history' engine engine' (result_err result) tag_of used first before (read_is result read) was)
 
   -- Evidence is of what was read
   read_shown : {cipher : List ℕ} (passed : Passed tag_of line counter history history' engine engine' cipher) (evidence : Evidence) → engine.evidence ≡ None →

@@ -1,5 +1,5 @@
 -- What an answer for a place makes of a bus, and what stays where there was none.
-use Rattle.std.proofs.Common.{◌≡◌, ◌≢◌, ℕ, inl, inr, Bool, true, false, cond, List, [], ◌∷◌, Option, None, Some, refl, ap, sym, ◌∙◌, subst, arith, length}
+use Rattle.std.proofs.Common.{◌≡◌, ◌≢◌, ◌⊎◌, ℕ, inl, inr, Bool, true, false, cond, List, [], ◌∷◌, Option, None, Some, refl, ap, sym, ◌∙◌, subst, arith, length}
 use Rattle.std.proofs.lemmas.List.{append-nil}
 use Rattle.sec_base.specs.Count.{more_by, Rose, RoseBy}
 use Rattle.sec_base.specs.LastMessage.{data_pairs}
@@ -20,7 +20,7 @@ use Rattle.checked_bus.specs.Makes.{HasAccesses, IsChecked, IsShownIn, Makes}
 use Rattle.checked_bus.specs.Steps.{IsAccounted, Moves, ReadsOnce, SameLines, SamePlace}
 use Rattle.checked_bus.proofs.Makes.{has_not}
 use Rattle.checked_bus.proofs.FalseAnswers.{first_lie_stays}
-use Rattle.checked_bus.proofs.Steps.{moves_not, same_last, same_lines_not, same_place_not}
+use Rattle.checked_bus.proofs.Steps.{moves_not, same_last, same_place_not}
 
 -- Counts that an answer leaves or raises
 
@@ -44,105 +44,97 @@ lies_kept place bytes history =
           let more : (after_read place bytes history).lies ≡ more_by 1 history.lies = ap (λ (t : BusHistory). t.lies) falsely.1 in omega (arith, more)
     ]
 
-module _ {T : Type 0} (place : Place) (bytes : List ℕ) (history history' : BusHistory) (engine engine' : TagEngineView T) where
-  -- An answer
+-- A read of a place was answered so, and of the tag engine only what it shows may have changed.
+pub record WasAnswered {T : Type 0} (place : Place) (history history' : BusHistory) (engine engine' : TagEngineView T) : Type 0 where
+  pub bytes : List ℕ
+  pub shown : Option Evidence
+  pub answered : history' ≡ after_read place bytes history
+  pub engine_is : engine' ≡ record engine { evidence = shown }
+  pub first : (evidence : Evidence) → engine.evidence ≡ Some evidence → shown ≡ Some evidence
 
-  pub answer_moves : history' ≡ after_read place bytes history → engine'.geometry ≡ engine.geometry → engine'.tagger ≡ engine.tagger →
-      engine'.made ≡ engine.made → ((evidence : Evidence) → engine.evidence ≡ Some evidence → engine'.evidence ≡ Some evidence) →
-      Moves history engine history' engine'
-  answer_moves answer geometry tagger made evidence = record {
-    bus_geometry = ap (λ (t : BusHistory). t.geometry) answer ∙ read_geometry place bytes history;
-    geometry = geometry;
-    tagger = tagger;
+-- it was, or there was no memory for it
+abbrev pub IsRead : {T : Type 0} → Place → BusHistory → BusHistory → TagEngineView T → TagEngineView T → Option MemStop → Type 0
+IsRead place history history' engine engine' stop =
+    (WasAnswered place history history' engine engine' × (stop ≢ Some NoMemory)) ⊎ ((history' ≡ history) × (engine' ≡ engine) × (stop ≡ Some NoMemory))
+
+module _ {T : Type 0} (place : Place) (history history' : BusHistory) (engine engine' : TagEngineView T) (stop : Option MemStop) where
+  pub place_moves : IsRead place history history' engine engine' stop → Moves history engine history' engine'
+  place_moves (inl (read, remembered)) = record {
+    bus_geometry = ap (λ (t : BusHistory). t.geometry) read.answered ∙ read_geometry place read.bytes history;
+    geometry = ap (λ (e : TagEngineView T). e.geometry) read.engine_is;
+    tagger = ap (λ (e : TagEngineView T). e.tagger) read.engine_is;
     more = [];
-    made = made ∙ sym (append-nil engine.made);
-    evidence = evidence;
-    reads = λ other. subst (λ (t : BusHistory). RoseBy 0 (history.reads other) (t.reads other)) (sym answer) (reads_kept place other bytes history);
+    made = ap (λ (e : TagEngineView T). e.made) read.engine_is ∙ sym (append-nil engine.made);
+    evidence = λ evidence is. ap (λ (e : TagEngineView T). e.evidence) read.engine_is ∙ read.first evidence is;
+    reads = λ other. subst (λ (t : BusHistory). RoseBy 0 (history.reads other) (t.reads other)) (sym read.answered) (reads_kept place other read.bytes history);
     accesses =
-        let is : history'.accesses ≡ more_by 1 history.accesses = ap (λ (t : BusHistory). t.accesses) answer ∙ read_accesses place bytes history in
+        let is : history'.accesses ≡ more_by 1 history.accesses = ap (λ (t : BusHistory). t.accesses) read.answered ∙ read_accesses place read.bytes history in
         omega (arith, is);
-    lies = subst (λ (t : BusHistory). RoseBy 0 history.lies t.lies) (sym answer) (lies_kept place bytes history);
+    lies = subst (λ (t : BusHistory). RoseBy 0 history.lies t.lies) (sym read.answered) (lies_kept place read.bytes history);
   }
+  place_moves (inr (same, unchanged, refused)) =
+      subst (λ (t : BusHistory). Moves history engine t engine') (sym same)
+      (subst (λ (e : TagEngineView T). Moves history engine history e) (sym unchanged) (moves_not history engine))
 
   -- it is one read
-  pub answer_once : (stop : Option MemStop) → history' ≡ after_read place bytes history → engine'.made ≡ engine.made →
-      engine'.room ≡ engine.room → stop ≢ Some NoMemory → ReadsOnce place history engine history' engine' stop
-  answer_once stop answer made room remembered = record {
-    made = made;
-    room = room;
-    written = ap (λ (t : BusHistory). t.written) answer ∙ read_written place bytes history;
-    once = inl (ap (λ (t : BusHistory). t.accesses) answer ∙ read_accesses place bytes history);
-    rose = λ _. subst (λ (t : BusHistory). Rose (history.reads place) (t.reads place)) (sym answer) (read_rose place bytes history);
+  pub place_once : IsRead place history history' engine engine' stop → ReadsOnce place history engine history' engine' stop
+  place_once (inl (read, remembered)) = record {
+    made = ap (λ (e : TagEngineView T). e.made) read.engine_is;
+    room = ap (λ (e : TagEngineView T). e.room) read.engine_is;
+    written = ap (λ (t : BusHistory). t.written) read.answered ∙ read_written place read.bytes history;
+    once = inl (ap (λ (t : BusHistory). t.accesses) read.answered ∙ read_accesses place read.bytes history);
+    rose = λ _. subst (λ (t : BusHistory). Rose (history.reads place) (t.reads place)) (sym read.answered) (read_rose place read.bytes history);
     refused = λ none. absurd (remembered none);
+  }
+  place_once (inr (same, unchanged, refused)) = record {
+    made = ap (λ (e : TagEngineView T). e.made) unchanged;
+    room = ap (λ (e : TagEngineView T). e.room) unchanged;
+    written = ap (λ (t : BusHistory). t.written) same;
+    once = inr refused;
+    rose = λ remembered. absurd (remembered refused);
+    refused = λ none. (same, unchanged);
   }
 
   -- no other place is touched
-  pub answer_others : (other : Place) → history' ≡ after_read place bytes history → engine'.made ≡ engine.made → other ≢ place →
-      SamePlace other history engine.made history' engine'.made
-  answer_others other answer made apart = record {
-    written = ap (λ (f : Place → List ℕ). f other) (ap (λ (t : BusHistory). t.written) answer ∙ read_written place bytes history);
-    reads = ap (λ (f : Place → ℕ). f other) (ap (λ (t : BusHistory). t.reads) answer ∙ read_reads place bytes history)
+  pub place_others : (other : Place) → other ≢ place → IsRead place history history' engine engine' stop → SamePlace other history engine.made history' engine'.made
+  place_others other apart (inl (read, remembered)) = record {
+    written = ap (λ (f : Place → List ℕ). f other) (ap (λ (t : BusHistory). t.written) read.answered ∙ read_written place read.bytes history);
+    reads = ap (λ (f : Place → ℕ). f other) (ap (λ (t : BusHistory). t.reads) read.answered ∙ read_reads place read.bytes history)
         ∙ at_place-there place other (more_by 1 (history.reads place)) history.reads apart;
-    last = same_last other engine.made engine'.made made;
+    last = same_last other engine.made engine'.made (ap (λ (e : TagEngineView T). e.made) read.engine_is);
   }
+  place_others other apart (inr (same, unchanged, refused)) =
+      subst (λ (t : BusHistory). SamePlace other history engine.made t engine'.made) (sym same)
+      (subst (λ (e : TagEngineView T). SamePlace other history engine.made history e.made) (sym unchanged) (same_place_not other history engine.made))
 
   -- nor a line, where the place is none of a line
-  pub answer_lines : history' ≡ after_read place bytes history → engine'.made ≡ engine.made → ((line : ℕ) → line_place line ≢ place) →
+  pub place_lines : ((line : ℕ) → line_place line ≢ place) → IsRead place history history' engine engine' stop →
       SameLines history engine.made history' engine'.made
   unfolding data_pairs
-  answer_lines answer made apart = record {
-    written = λ line. ap (λ (f : Place → List ℕ). f (line_place line)) (ap (λ (t : BusHistory). t.written) answer ∙ read_written place bytes history);
-    reads = λ line. ap (λ (f : Place → ℕ). f (line_place line)) (ap (λ (t : BusHistory). t.reads) answer ∙ read_reads place bytes history)
-        ∙ at_place-there place (line_place line) (more_by 1 (history.reads place)) history.reads (apart line);
+  place_lines apart read = record {
+    written = λ line. (place_others (line_place line) (apart line) read).written;
+    reads = λ line. (place_others (line_place line) (apart line) read).reads;
     more = [];
-    made_more = made ∙ sym (append-nil engine.made);
+    made_more = (place_once read).made ∙ sym (append-nil engine.made);
     no_lines = refl;
   }
 
   -- with evidence from before it is told by what that shows
-  pub answer_accounted : (tag_of : Message → List ℕ) (used : List (ℕ × Counter)) (stop : Option MemStop) (first : Evidence) →
-      history' ≡ after_read place bytes history → engine'.made ≡ engine.made → engine.evidence ≡ Some first → engine'.evidence ≡ Some first →
+  pub answer_accounted : (tag_of : Message → List ℕ) (used : List (ℕ × Counter)) (first : Evidence) → engine.evidence ≡ Some first →
+      WasAnswered place history history' engine engine' →
       IsAccounted tag_of used engine.made history None engine.evidence → IsAccounted tag_of used engine'.made history' stop engine'.evidence
-  answer_accounted tag_of used stop first answer made before after was =
-      subst (λ (t : BusHistory). IsAccounted tag_of used engine'.made t stop engine'.evidence) (sym answer)
-      (subst (λ (xs : List Message). IsAccounted tag_of used xs (after_read place bytes history) stop engine'.evidence) (sym made)
-      (subst (λ (o : Option Evidence). IsAccounted tag_of used engine.made (after_read place bytes history) stop o) (before ∙ sym after) (record {
+  answer_accounted tag_of used first before read was =
+      let after : engine'.evidence ≡ Some first = ap (λ (e : TagEngineView T). e.evidence) read.engine_is ∙ read.first first before in
+      subst (λ (t : BusHistory). IsAccounted tag_of used engine'.made t stop engine'.evidence) (sym read.answered)
+      (subst (λ (xs : List Message). IsAccounted tag_of used xs (after_read place read.bytes history) stop engine'.evidence)
+      (sym (ap (λ (e : TagEngineView T). e.made) read.engine_is))
+      (subst (λ (o : Option Evidence). IsAccounted tag_of used engine.made (after_read place read.bytes history) stop o) (before ∙ sym after) (record {
         account = record {
           answers = λ quiet. absurd (let none : engine.evidence ≡ None = quiet in cc);
-          shown = λ evidence is. first_lie_stays history engine.made place bytes evidence (was.account.shown evidence is);
+          shown = λ evidence is. first_lie_stays history engine.made place read.bytes evidence (was.account.shown evidence is);
         };
         genuine = was.genuine;
       })))
-
-module _ {T : Type 0} (history history' : BusHistory) (engine engine' : TagEngineView T) (same : history' ≡ history) (unchanged : engine' ≡ engine) where
-  -- No answer
-
-  pub nothing_moves : Moves history engine history' engine'
-  nothing_moves =
-      subst (λ (t : BusHistory). Moves history engine t engine') (sym same)
-      (subst (λ (e : TagEngineView T). Moves history engine history e) (sym unchanged) (moves_not history engine))
-
-  pub nothing_lines : SameLines history engine.made history' engine'.made
-  nothing_lines =
-      subst (λ (t : BusHistory). SameLines history engine.made t engine'.made) (sym same)
-      (subst (λ (e : TagEngineView T). SameLines history engine.made history e.made) (sym unchanged) (same_lines_not history engine.made))
-
-pub nothing_once : {T : Type 0} (place : Place) (history history' : BusHistory) (engine engine' : TagEngineView T) → history' ≡ history → engine' ≡ engine →
-    ReadsOnce place history engine history' engine' (Some NoMemory)
-nothing_once {T} place history history' engine engine' same unchanged = record {
-  made = ap (λ (e : TagEngineView T). e.made) unchanged;
-  room = ap (λ (e : TagEngineView T). e.room) unchanged;
-  written = ap (λ (t : BusHistory). t.written) same;
-  once = inr refl;
-  rose = λ remembered. absurd (remembered refl);
-  refused = λ none. (same, unchanged);
-}
-
-pub nothing_others : {T : Type 0} (other : Place) (history history' : BusHistory) (engine engine' : TagEngineView T) → history' ≡ history → engine' ≡ engine →
-    SamePlace other history engine.made history' engine'.made
-nothing_others {T} other history history' engine engine' same unchanged =
-    subst (λ (t : BusHistory). SamePlace other history engine.made t engine'.made) (sym same)
-    (subst (λ (e : TagEngineView T). SamePlace other history engine.made history e.made) (sym unchanged) (same_place_not other history engine.made))
 
 -- tampering was told of the last access
 pub told_last : (place other : Place) (stop : MemStop) (bytes : List ℕ) → stop ≡ Tampered place → Some stop ≡ Some (Tampered other) →

@@ -44,17 +44,13 @@ module _ (geometry : GeometryView) (blocks blocks' : List (List Way)) (are : Are
 
 pub blocks_left : (geometry : GeometryView) (blocks blocks' : List (List Way)) (page : ℕ) → AreBlocks geometry blocks → IsCache block_sets blocks' → way_at blocks' page ≡ None →
     ((other : ℕ) → other ≢ page → way_at blocks' other ≡ way_at blocks other) → AreBlocks geometry blocks'
-blocks_left geometry blocks blocks' page are cache gone same = record {
-  cache = cache;
-  pages = λ other way found. elim (cases_eq other page) [
-    | inr apart ↦ are.pages other way (sym (same other apart) ∙ found)
-    | inl e ↦ let none : None ≡ Some way = sym gone ∙ ap (λ (p : ℕ). way_at blocks' p) (sym e) ∙ found in absurd (cc)
-  ];
-  whole = λ other way found. elim (cases_eq other page) [
-    | inr apart ↦ are.whole other way (sym (same other apart) ∙ found)
-    | inl e ↦ let none : None ≡ Some way = sym gone ∙ ap (λ (p : ℕ). way_at blocks' p) (sym e) ∙ found in absurd (cc)
-  ];
-}
+blocks_left geometry blocks blocks' page are cache gone same =
+    let kept : (other : ℕ) (way : Way) → way_at blocks' other ≡ Some way → way_at blocks other ≡ Some way = λ other way found.
+    elim (cases_eq other page) [
+      | inr apart ↦ sym (same other apart) ∙ found
+      | inl e ↦ absurd (none-some way (sym gone ∙ ap (way_at blocks') (sym e) ∙ found))
+    ] in
+    record { cache = cache; pages = λ other way found. are.pages other way (kept other way found); whole = λ other way found. are.whole other way (kept other way found) }
 
 -- The pages that have a copy
 

@@ -31,6 +31,5 @@ returns-clause-makes g c =
     let read = c.read_node.ensures.makes in (
       read.0,
       read.1,
-      makes_kept g.T.Tagger.data_tag_of g.T.Tagger.node_tag_of c.args.level c.args.index c.args.tag.now (g.B.Bus.history c.args.bus.now) (g.B.Bus.history c.read_node.new.bus) c.args.tags.now c.read_node.new.tags
-          read.0 (result_err c.read_node.result) some read.2.makes,
+      makes_kept g.T.Tagger.data_tag_of g.T.Tagger.node_tag_of c.args.level c.args.index c.args.tag.now some read.2.makes,
     )

@@ -32,41 +32,35 @@ use Rattle.bonsai_tree.proofs.TreeMakes.{makes_after, makes_climbed, makes_wrote
 use Rattle.bonsai_tree.proofs.tree.Tree.+present.Goals as goal
 
 pub parent_present-returns-then-level-levels-clause-climbs : goal.parent_present-returns-then-level-levels-clause-climbs
-parent_present-returns-then-level-levels-clause-climbs g t c = climbs_not g.T.Tagger.data_tag_of g.T.Tagger.node_tag_of (c.args.level + 1) c.args.self.now (g.B.Bus.history c.args.bus.now) c.args.tags.now
+parent_present-returns-then-level-levels-clause-climbs g t c = climbs_not g.T.Tagger.data_tag_of g.T.Tagger.node_tag_of
 
 pub write_back-returns-in_err-parent_present-clause-climbs : goal.write_back-returns-in_err-parent_present-clause-climbs
 write_back-returns-in_err-parent_present-clause-climbs g t c =
     let why = c.in_err-parent_present.field-0.0 in
     let stop : result_err c.from_residual.result ≡ Some why = search rules in
-    subst (λ (s : Option MemStop). Climbs (tags_of g.T.Tagger.data_tag_of g.T.Tagger.node_tag_of) c.args.level c.args.self.now
-    (g.B.Bus.history c.args.bus.now) c.args.tags.now c.parent_present.new.self (g.B.Bus.history c.parent_present.new.bus) c.parent_present.new.tags s) (sym stop)
-    (climbs_up g.T.Tagger.data_tag_of g.T.Tagger.node_tag_of c.args.level (c.args.level + 1) c.args.self.now c.parent_present.new.self (g.B.Bus.history c.args.bus.now) (g.B.Bus.history c.parent_present.new.bus) c.args.tags.now c.parent_present.new.tags (Some why) (omega arith) c.in_err-parent_present.ensures.climbs)
+    rw stop (climbs_up g.T.Tagger.data_tag_of g.T.Tagger.node_tag_of (omega arith) c.in_err-parent_present.ensures.climbs)
 
 pub write_back-returns-in_err-write_below-clause-climbs : goal.write_back-returns-in_err-write_below-clause-climbs
 write_back-returns-in_err-write_below-clause-climbs g t c =
     let stop : result_err c.from_residual-in_err-write_below.result ≡ Some NoMemory = search rules in
-    subst (λ (s : Option MemStop). Climbs (tags_of g.T.Tagger.data_tag_of g.T.Tagger.node_tag_of) c.args.level c.args.self.now
-    (g.B.Bus.history c.args.bus.now) c.args.tags.now c.write_below.new.self (g.B.Bus.history c.write_below.new.bus) c.write_below.new.tags s) (sym stop)
-    (climbs_on g.T.Tagger.data_tag_of g.T.Tagger.node_tag_of c.args.level c.args.self.now c.parent_present.new.self c.write_below.new.self (g.B.Bus.history c.args.bus.now) (g.B.Bus.history c.parent_present.new.bus) (g.B.Bus.history c.write_below.new.bus) c.args.tags.now c.parent_present.new.tags c.write_below.new.tags (Some NoMemory)
-    (climbs_up g.T.Tagger.data_tag_of g.T.Tagger.node_tag_of c.args.level (c.args.level + 1) c.args.self.now c.parent_present.new.self (g.B.Bus.history c.args.bus.now) (g.B.Bus.history c.parent_present.new.bus) c.args.tags.now c.parent_present.new.tags None (omega arith) c.in_ok-parent_present.ensures.climbs)
+    rw stop (climbs_on g.T.Tagger.data_tag_of g.T.Tagger.node_tag_of
+    (climbs_up g.T.Tagger.data_tag_of g.T.Tagger.node_tag_of (omega arith) c.in_ok-parent_present.ensures.climbs)
     c.in_err-write_below.ensures.climbs)
 
 pub write_back-returns-clause-climbs : goal.write_back-returns-clause-climbs
 write_back-returns-clause-climbs g t c =
-    climbs_on g.T.Tagger.data_tag_of g.T.Tagger.node_tag_of c.args.level c.args.self.now c.parent_present.new.self c.write_below.new.self (g.B.Bus.history c.args.bus.now) (g.B.Bus.history c.parent_present.new.bus) (g.B.Bus.history c.write_below.new.bus) c.args.tags.now c.parent_present.new.tags c.write_below.new.tags None
-    (climbs_up g.T.Tagger.data_tag_of g.T.Tagger.node_tag_of c.args.level (c.args.level + 1) c.args.self.now c.parent_present.new.self (g.B.Bus.history c.args.bus.now) (g.B.Bus.history c.parent_present.new.bus) c.args.tags.now c.parent_present.new.tags None (omega arith) c.in_ok-parent_present.ensures.climbs)
+    climbs_on g.T.Tagger.data_tag_of g.T.Tagger.node_tag_of
+    (climbs_up g.T.Tagger.data_tag_of g.T.Tagger.node_tag_of (omega arith) c.in_ok-parent_present.ensures.climbs)
     (c.in_ok-write_below.ensures.climbs)
 
 pub make_room-returns-in_default-clause-climbs : goal.make_room-returns-in_default-clause-climbs
-make_room-returns-in_default-clause-climbs g t c = climbs_not g.T.Tagger.data_tag_of g.T.Tagger.node_tag_of c.args.level c.args.self.now (g.B.Bus.history c.args.bus.now) c.args.tags.now
+make_room-returns-in_default-clause-climbs g t c = climbs_not g.T.Tagger.data_tag_of g.T.Tagger.node_tag_of
 
 pub make_room-returns-in_err-write_back-clause-climbs : goal.make_room-returns-in_err-write_back-clause-climbs
 make_room-returns-in_err-write_back-clause-climbs g t c =
     let why = c.in_err-write_back.field-0.0 in
     let stop : result_err c.from_residual.result ≡ Some why = search rules in
-    subst (λ (s : Option MemStop). Climbs (tags_of g.T.Tagger.data_tag_of g.T.Tagger.node_tag_of) c.args.level c.args.self.now
-    (g.B.Bus.history c.args.bus.now) c.args.tags.now c.write_back.new.self (g.B.Bus.history c.write_back.new.bus) c.write_back.new.tags s) (sym stop)
-    (c.in_err-write_back.ensures.climbs)
+    rw stop (c.in_err-write_back.ensures.climbs)
 
 pub present-returns-then-touch-clause-climbs : goal.present-returns-then-touch-clause-climbs
 present-returns-then-touch-clause-climbs g t c =
@@ -76,9 +70,7 @@ pub present-returns-in_err-make_room-clause-climbs : goal.present-returns-in_err
 present-returns-in_err-make_room-clause-climbs g t c =
     let why = c.in_err-make_room.field-0.0 in
     let stop : result_err c.from_residual.result ≡ Some why = search rules in
-    subst (λ (s : Option MemStop). Climbs (tags_of g.T.Tagger.data_tag_of g.T.Tagger.node_tag_of) c.args.level c.args.self.now
-    (g.B.Bus.history c.args.bus.now) c.args.tags.now c.make_room.new.self (g.B.Bus.history c.make_room.new.bus) c.make_room.new.tags s) (sym stop)
-    (climbs_on g.T.Tagger.data_tag_of g.T.Tagger.node_tag_of c.args.level c.args.self.now (tree_of c.self.inside.root c.touch.new.self) c.make_room.new.self (g.B.Bus.history c.args.bus.now) (g.B.Bus.history c.args.bus.now) (g.B.Bus.history c.make_room.new.bus) c.args.tags.now c.args.tags.now c.make_room.new.tags (Some why)
+    rw stop (climbs_on g.T.Tagger.data_tag_of g.T.Tagger.node_tag_of
     (climbs_touched g.T.Tagger.data_tag_of g.T.Tagger.node_tag_of c.args.level c.args.self.now c.self.inside.root c.self.inside.nodes c.touch.new.self (g.B.Bus.history c.args.bus.now) c.args.tags.now c.self.view_is c.if-touch.ensures.geometry c.if-touch.ensures.nodes c.if-touch.ensures.others c.if-touch.ensures.same)
     c.in_err-make_room.ensures.climbs)
 
@@ -86,56 +78,52 @@ pub present-returns-in_err-parent_present-clause-climbs : goal.present-returns-i
 present-returns-in_err-parent_present-clause-climbs g t c =
     let why = c.in_err-parent_present.field-0.0 in
     let stop : result_err c.from_residual-in_err-parent_present.result ≡ Some why = search rules in
-    subst (λ (s : Option MemStop). Climbs (tags_of g.T.Tagger.data_tag_of g.T.Tagger.node_tag_of) c.args.level c.args.self.now
-    (g.B.Bus.history c.args.bus.now) c.args.tags.now c.parent_present.new.self (g.B.Bus.history c.parent_present.new.bus) c.parent_present.new.tags s) (sym stop)
-    (climbs_on g.T.Tagger.data_tag_of g.T.Tagger.node_tag_of c.args.level c.args.self.now c.make_room.new.self c.parent_present.new.self (g.B.Bus.history c.args.bus.now) (g.B.Bus.history c.make_room.new.bus) (g.B.Bus.history c.parent_present.new.bus) c.args.tags.now c.make_room.new.tags c.parent_present.new.tags (Some why)
-    (climbs_on g.T.Tagger.data_tag_of g.T.Tagger.node_tag_of c.args.level c.args.self.now (tree_of c.self.inside.root c.touch.new.self) c.make_room.new.self (g.B.Bus.history c.args.bus.now) (g.B.Bus.history c.args.bus.now) (g.B.Bus.history c.make_room.new.bus) c.args.tags.now c.args.tags.now c.make_room.new.tags None
+    rw stop (climbs_on g.T.Tagger.data_tag_of g.T.Tagger.node_tag_of (climbs_on g.T.Tagger.data_tag_of g.T.Tagger.node_tag_of
     (climbs_touched g.T.Tagger.data_tag_of g.T.Tagger.node_tag_of c.args.level c.args.self.now c.self.inside.root c.self.inside.nodes c.touch.new.self (g.B.Bus.history c.args.bus.now) c.args.tags.now c.self.view_is c.if-touch.ensures.geometry c.if-touch.ensures.nodes c.if-touch.ensures.others c.if-touch.ensures.same)
     c.in_ok-make_room.ensures.climbs)
-    (climbs_up g.T.Tagger.data_tag_of g.T.Tagger.node_tag_of c.args.level (c.args.level + 1) c.make_room.new.self c.parent_present.new.self (g.B.Bus.history c.make_room.new.bus) (g.B.Bus.history c.parent_present.new.bus) c.make_room.new.tags c.parent_present.new.tags (Some why) (omega arith) c.in_err-parent_present.ensures.climbs))
+    (climbs_up g.T.Tagger.data_tag_of g.T.Tagger.node_tag_of (omega arith) c.in_err-parent_present.ensures.climbs))
 
 pub present-returns-clause-climbs : goal.present-returns-clause-climbs
 present-returns-clause-climbs g t c =
-    climbs_on g.T.Tagger.data_tag_of g.T.Tagger.node_tag_of c.args.level c.args.self.now c.parent_present.new.self c.read_in.new.self (g.B.Bus.history c.args.bus.now) (g.B.Bus.history c.parent_present.new.bus) (g.B.Bus.history c.read_in.new.bus) c.args.tags.now c.parent_present.new.tags c.read_in.new.tags (result_err c.read_in.result)
-    (climbs_on g.T.Tagger.data_tag_of g.T.Tagger.node_tag_of c.args.level c.args.self.now c.make_room.new.self c.parent_present.new.self (g.B.Bus.history c.args.bus.now) (g.B.Bus.history c.make_room.new.bus) (g.B.Bus.history c.parent_present.new.bus) c.args.tags.now c.make_room.new.tags c.parent_present.new.tags None
-    (climbs_on g.T.Tagger.data_tag_of g.T.Tagger.node_tag_of c.args.level c.args.self.now (tree_of c.self.inside.root c.touch.new.self) c.make_room.new.self (g.B.Bus.history c.args.bus.now) (g.B.Bus.history c.args.bus.now) (g.B.Bus.history c.make_room.new.bus) c.args.tags.now c.args.tags.now c.make_room.new.tags None
+    climbs_on g.T.Tagger.data_tag_of g.T.Tagger.node_tag_of (climbs_on g.T.Tagger.data_tag_of g.T.Tagger.node_tag_of
+    (climbs_on g.T.Tagger.data_tag_of g.T.Tagger.node_tag_of
     (climbs_touched g.T.Tagger.data_tag_of g.T.Tagger.node_tag_of c.args.level c.args.self.now c.self.inside.root c.self.inside.nodes c.touch.new.self (g.B.Bus.history c.args.bus.now) c.args.tags.now c.self.view_is c.if-touch.ensures.geometry c.if-touch.ensures.nodes c.if-touch.ensures.others c.if-touch.ensures.same)
     c.in_ok-make_room.ensures.climbs)
-    (climbs_up g.T.Tagger.data_tag_of g.T.Tagger.node_tag_of c.args.level (c.args.level + 1) c.make_room.new.self c.parent_present.new.self (g.B.Bus.history c.make_room.new.bus) (g.B.Bus.history c.parent_present.new.bus) c.make_room.new.tags c.parent_present.new.tags None (omega arith) c.in_ok-parent_present.ensures.climbs))
+    (climbs_up g.T.Tagger.data_tag_of g.T.Tagger.node_tag_of (omega arith) c.in_ok-parent_present.ensures.climbs))
     c.read_in.ensures.climbs
 
 pub present-returns-in_err-make_room-clause-once : goal.present-returns-in_err-make_room-clause-once
 present-returns-in_err-make_room-clause-once g t c =
     present_first c.args.self.now.geometry c.touch.new.self.geometry c.args.level (g.B.Bus.history c.args.bus.now).accesses (g.B.Bus.history c.make_room.new.bus).accesses c.requires.node.0
-    (geometry_as c.args.self.now c.self.inside.root c.self.inside.nodes c.touch.new.self c.self.view_is c.if-touch.ensures.geometry) c.in_err-make_room.ensures.once
+    (geometry_as c.self.inside.root c.self.inside.nodes c.touch.new.self c.self.view_is c.if-touch.ensures.geometry) c.in_err-make_room.ensures.once
 
 pub present-returns-in_err-parent_present-clause-once : goal.present-returns-in_err-parent_present-clause-once
 present-returns-in_err-parent_present-clause-once g t c =
     present_second c.args.self.now.geometry c.touch.new.self.geometry c.make_room.new.self.geometry c.args.level (g.B.Bus.history c.args.bus.now).accesses (g.B.Bus.history c.make_room.new.bus).accesses (g.B.Bus.history c.parent_present.new.bus).accesses (g.B.Bus.history c.parent_present.new.bus).accesses c.requires.node.0
-    (geometry_as c.args.self.now c.self.inside.root c.self.inside.nodes c.touch.new.self c.self.view_is c.if-touch.ensures.geometry) (c.in_ok-make_room.ensures.climbs.geometry ∙ (geometry_as c.args.self.now c.self.inside.root c.self.inside.nodes c.touch.new.self c.self.view_is c.if-touch.ensures.geometry)) c.in_ok-make_room.ensures.once c.in_err-parent_present.ensures.once (omega arith)
+    (geometry_as c.self.inside.root c.self.inside.nodes c.touch.new.self c.self.view_is c.if-touch.ensures.geometry) (c.in_ok-make_room.ensures.climbs.geometry ∙ (geometry_as c.self.inside.root c.self.inside.nodes c.touch.new.self c.self.view_is c.if-touch.ensures.geometry)) c.in_ok-make_room.ensures.once c.in_err-parent_present.ensures.once (omega arith)
 
 pub present-returns-clause-once : goal.present-returns-clause-once
 present-returns-clause-once g t c =
     present_second c.args.self.now.geometry c.touch.new.self.geometry c.make_room.new.self.geometry c.args.level (g.B.Bus.history c.args.bus.now).accesses (g.B.Bus.history c.make_room.new.bus).accesses (g.B.Bus.history c.parent_present.new.bus).accesses (g.B.Bus.history c.read_in.new.bus).accesses c.requires.node.0
-    (geometry_as c.args.self.now c.self.inside.root c.self.inside.nodes c.touch.new.self c.self.view_is c.if-touch.ensures.geometry) (c.in_ok-make_room.ensures.climbs.geometry ∙ (geometry_as c.args.self.now c.self.inside.root c.self.inside.nodes c.touch.new.self c.self.view_is c.if-touch.ensures.geometry)) c.in_ok-make_room.ensures.once c.in_ok-parent_present.ensures.once c.read_in.ensures.once
+    (geometry_as c.self.inside.root c.self.inside.nodes c.touch.new.self c.self.view_is c.if-touch.ensures.geometry) (c.in_ok-make_room.ensures.climbs.geometry ∙ (geometry_as c.self.inside.root c.self.inside.nodes c.touch.new.self c.self.view_is c.if-touch.ensures.geometry)) c.in_ok-make_room.ensures.once c.in_ok-parent_present.ensures.once c.read_in.ensures.once
 
 pub present-returns-in_err-make_room-clause-few : goal.present-returns-in_err-make_room-clause-few
 present-returns-in_err-make_room-clause-few g t c =
     present_first c.args.self.now.geometry c.touch.new.self.geometry c.args.level (length c.args.tags.now.made) (length c.make_room.new.tags.made) c.requires.node.0
-    (geometry_as c.args.self.now c.self.inside.root c.self.inside.nodes c.touch.new.self c.self.view_is c.if-touch.ensures.geometry) c.in_err-make_room.ensures.few
+    (geometry_as c.self.inside.root c.self.inside.nodes c.touch.new.self c.self.view_is c.if-touch.ensures.geometry) c.in_err-make_room.ensures.few
 
 pub present-returns-in_err-parent_present-clause-few : goal.present-returns-in_err-parent_present-clause-few
 present-returns-in_err-parent_present-clause-few g t c =
     present_second c.args.self.now.geometry c.touch.new.self.geometry c.make_room.new.self.geometry c.args.level (length c.args.tags.now.made) (length c.make_room.new.tags.made) (length c.parent_present.new.tags.made) (length c.parent_present.new.tags.made) c.requires.node.0
-    (geometry_as c.args.self.now c.self.inside.root c.self.inside.nodes c.touch.new.self c.self.view_is c.if-touch.ensures.geometry) (c.in_ok-make_room.ensures.climbs.geometry ∙ (geometry_as c.args.self.now c.self.inside.root c.self.inside.nodes c.touch.new.self c.self.view_is c.if-touch.ensures.geometry)) c.in_ok-make_room.ensures.few c.in_err-parent_present.ensures.few (omega arith)
+    (geometry_as c.self.inside.root c.self.inside.nodes c.touch.new.self c.self.view_is c.if-touch.ensures.geometry) (c.in_ok-make_room.ensures.climbs.geometry ∙ (geometry_as c.self.inside.root c.self.inside.nodes c.touch.new.self c.self.view_is c.if-touch.ensures.geometry)) c.in_ok-make_room.ensures.few c.in_err-parent_present.ensures.few (omega arith)
 
 pub present-returns-clause-few : goal.present-returns-clause-few
 present-returns-clause-few g t c =
     present_second c.args.self.now.geometry c.touch.new.self.geometry c.make_room.new.self.geometry c.args.level (length c.args.tags.now.made) (length c.make_room.new.tags.made) (length c.parent_present.new.tags.made) (length c.read_in.new.tags.made) c.requires.node.0
-    (geometry_as c.args.self.now c.self.inside.root c.self.inside.nodes c.touch.new.self c.self.view_is c.if-touch.ensures.geometry) (c.in_ok-make_room.ensures.climbs.geometry ∙ (geometry_as c.args.self.now c.self.inside.root c.self.inside.nodes c.touch.new.self c.self.view_is c.if-touch.ensures.geometry)) c.in_ok-make_room.ensures.few c.in_ok-parent_present.ensures.few c.read_in.ensures.few
+    (geometry_as c.self.inside.root c.self.inside.nodes c.touch.new.self c.self.view_is c.if-touch.ensures.geometry) (c.in_ok-make_room.ensures.climbs.geometry ∙ (geometry_as c.self.inside.root c.self.inside.nodes c.touch.new.self c.self.view_is c.if-touch.ensures.geometry)) c.in_ok-make_room.ensures.few c.in_ok-parent_present.ensures.few c.read_in.ensures.few
 
 pub write_back-returns-then-not-victim-clause-climbs : goal.write_back-returns-then-not-victim-clause-climbs
-write_back-returns-then-not-victim-clause-climbs g t c = climbs_not g.T.Tagger.data_tag_of g.T.Tagger.node_tag_of c.args.level c.args.self.now (g.B.Bus.history c.args.bus.now) c.args.tags.now
+write_back-returns-then-not-victim-clause-climbs g t c = climbs_not g.T.Tagger.data_tag_of g.T.Tagger.node_tag_of
 
 pub make_room-returns-clause-climbs : goal.make_room-returns-clause-climbs
 make_room-returns-clause-climbs g t c =
@@ -143,13 +131,12 @@ make_room-returns-clause-climbs g t c =
     sym (ap (λ (v : TreeView). node_way v.caches c.args.level c.in-Some.victim.place) c.self.view_is) ∙ c.in-Some.ensures.way in
     let here : node_way c.write_back.new.self.caches c.args.level c.in-Some.victim.place ≡ Some c.in-Some.victim =
     ap (λ (cache : List (List Way)). way_at cache c.in-Some.victim.place) c.in_ok-write_back.ensures.copies ∙ way in
-    climbs_on g.T.Tagger.data_tag_of g.T.Tagger.node_tag_of c.args.level c.args.self.now c.write_back.new.self (tree_of c.self-2.inside.root c.remove.new.self) (g.B.Bus.history c.args.bus.now) (g.B.Bus.history c.write_back.new.bus) (g.B.Bus.history c.write_back.new.bus) c.args.tags.now c.write_back.new.tags c.write_back.new.tags None
-    c.in_ok-write_back.ensures.climbs
-    (climbs_dropped g.T.Tagger.data_tag_of g.T.Tagger.node_tag_of c.args.level c.in-Some.victim.place c.write_back.new.self (tree_of c.self-2.inside.root c.remove.new.self) (g.B.Bus.history c.write_back.new.bus) c.write_back.new.tags (copy_of c.in-Some.victim)
-    (geometry_as c.write_back.new.self c.self-2.inside.root c.self-2.inside.nodes c.remove.new.self c.self-2.view_is c.remove.ensures.geometry) (root_as c.write_back.new.self c.self-2.inside.root c.self-2.inside.nodes c.remove.new.self c.self-2.view_is) c.remove.ensures.nodes
-    (others_as c.write_back.new.self c.self-2.inside.root c.self-2.inside.nodes c.remove.new.self c.self-2.view_is c.args.level c.remove.ensures.others)
+    climbs_on g.T.Tagger.data_tag_of g.T.Tagger.node_tag_of c.in_ok-write_back.ensures.climbs
+    (climbs_dropped g.T.Tagger.data_tag_of g.T.Tagger.node_tag_of c.in-Some.victim.place (copy_of c.in-Some.victim)
+    (geometry_as c.self-2.inside.root c.self-2.inside.nodes c.remove.new.self c.self-2.view_is c.remove.ensures.geometry) (root_as c.self-2.inside.root c.self-2.inside.nodes c.remove.new.self c.self-2.view_is) c.remove.ensures.nodes
+    (others_as c.self-2.inside.root c.self-2.inside.nodes c.remove.new.self c.self-2.view_is c.args.level c.remove.ensures.others)
     (ap (option_map copy_of) here) (ap (option_map copy_of) c.remove.ensures.removed)
-    (same_as c.write_back.new.self c.self-2.inside.root c.self-2.inside.nodes c.remove.new.self c.self-2.view_is c.args.level c.in-Some.victim.place c.remove.ensures.same)
+    (same_as c.self-2.inside.root c.self-2.inside.nodes c.remove.new.self c.self-2.view_is c.args.level c.in-Some.victim.place c.remove.ensures.same)
     c.in_ok-write_back.ensures.last)
 
 pub make_room-returns-clause-absent : goal.make_room-returns-clause-absent
@@ -161,9 +148,6 @@ make_room-returns-clause-absent g t c =
     c.remove.ensures.same c.args.level c.args.index apart
     ∙ ap (λ (v : TreeView). node_way v.caches c.args.level c.args.index) c.self-2.view_is
     ∙ ap (λ (cache : List (List Way)). way_at cache c.args.index) c.in_ok-write_back.ensures.copies ∙ c.requires.absent
-
-pub make_room-returns-clause-room : goal.make_room-returns-clause-room
-make_room-returns-clause-room g t c = c.remove.ensures.room c.args.index c.in-Some.ensures.beside
 
 pub parent_present-returns-clause-nodes : goal.parent_present-returns-clause-nodes
 parent_present-returns-clause-nodes g t c =
@@ -184,39 +168,30 @@ present-returns-clause-hit g t c = λ held.
 -- Which nodes were made, and which copies changed
 
 pub parent_present-returns-then-level-levels-clause-back : goal.parent_present-returns-then-level-levels-clause-back
-parent_present-returns-then-level-levels-clause-back g t c =
-    up_same _ (c.args.level + 1) NoNode c.args.self.now c.args.self.now (g.B.Bus.history c.args.bus.now) (g.B.Bus.history c.args.bus.now) c.args.tags.now.made c.args.tags.now.made None (λ place. omega arith) refl (λ level index. refl)
+parent_present-returns-then-level-levels-clause-back g t c = up_same (λ place. omega arith) refl (λ level index. refl)
 
 pub write_back-returns-then-not-victim-clause-back : goal.write_back-returns-then-not-victim-clause-back
-write_back-returns-then-not-victim-clause-back g t c =
-    up_same _ (c.args.level + 1) (IsVictim c.args.level c.args.victim.now None) c.args.self.now c.args.self.now (g.B.Bus.history c.args.bus.now) (g.B.Bus.history c.args.bus.now) c.args.tags.now.made c.args.tags.now.made None (λ place. omega arith) refl (λ level index. refl)
+write_back-returns-then-not-victim-clause-back g t c = up_same (λ place. omega arith) refl (λ level index. refl)
 
 pub write_back-returns-in_err-parent_present-clause-back : goal.write_back-returns-in_err-parent_present-clause-back
 write_back-returns-in_err-parent_present-clause-back g t c =
     let why = c.in_err-parent_present.field-0.0 in
     let stop : result_err c.from_residual.result ≡ Some why = search rules in
-    subst (λ (s : Option MemStop). WritesUp (EndsQuietly (tags_of g.T.Tagger.data_tag_of g.T.Tagger.node_tag_of) c.args.self.now (g.B.Bus.history c.args.bus.now) c.args.tags.now c.parent_present.new.tags) (c.args.level + 1) (IsVictim c.args.level c.args.victim.now s) c.args.self.now (g.B.Bus.history c.args.bus.now) c.args.tags.now.made c.parent_present.new.self (g.B.Bus.history c.parent_present.new.bus) c.parent_present.new.tags.made s) (sym stop)
-    (up_as _ (c.args.level + 1) NoNode (IsVictim c.args.level c.args.victim.now (Some why)) c.args.self.now c.parent_present.new.self (g.B.Bus.history c.args.bus.now) (g.B.Bus.history c.parent_present.new.bus) c.args.tags.now.made c.parent_present.new.tags.made (Some why) (λ other at bytes none. absurd none)
-    c.in_err-parent_present.ensures.back)
+    rw stop (up_as (λ other at bytes none. absurd none) c.in_err-parent_present.ensures.back)
 
 pub write_back-returns-in_err-write_below-clause-back : goal.write_back-returns-in_err-write_below-clause-back
 write_back-returns-in_err-write_below-clause-back g t c =
     let stop : result_err c.from_residual-in_err-write_below.result ≡ Some NoMemory = search rules in
     let changed : c.args.victim.now.changed ≡ true = search rules in
-    subst (λ (s : Option MemStop). WritesUp (EndsQuietly (tags_of g.T.Tagger.data_tag_of g.T.Tagger.node_tag_of) c.args.self.now (g.B.Bus.history c.args.bus.now) c.args.tags.now c.write_below.new.tags) (c.args.level + 1) (IsVictim c.args.level c.args.victim.now s) c.args.self.now (g.B.Bus.history c.args.bus.now) c.args.tags.now.made c.write_below.new.self (g.B.Bus.history c.write_below.new.bus) c.write_below.new.tags.made s) (sym stop)
-    (up_climbed g.T.Tagger.data_tag_of g.T.Tagger.node_tag_of (c.args.level + 1) (c.args.level + 1) (IsVictim c.args.level c.args.victim.now (Some NoMemory)) c.args.self.now c.parent_present.new.self c.write_below.new.self (g.B.Bus.history c.args.bus.now) (g.B.Bus.history c.parent_present.new.bus) (g.B.Bus.history c.write_below.new.bus) c.args.tags.now c.parent_present.new.tags c.write_below.new.tags (Some NoMemory)
-    c.in_ok-parent_present.ensures.climbs c.in_err-write_below.ensures.climbs.moves
-    c.in_ok-parent_present.ensures.back
-    (up_as _ (c.args.level + 1) (IsBlockOf c.args.level c.args.victim.now.place c.args.victim.now.copy) (IsVictim c.args.level c.args.victim.now (Some NoMemory)) c.parent_present.new.self c.write_below.new.self (g.B.Bus.history c.parent_present.new.bus) (g.B.Bus.history c.write_below.new.bus) c.parent_present.new.tags.made c.write_below.new.tags.made (Some NoMemory)
+    rw stop (up_climbed g.T.Tagger.data_tag_of g.T.Tagger.node_tag_of
+    c.in_ok-parent_present.ensures.climbs c.in_err-write_below.ensures.climbs.moves c.in_ok-parent_present.ensures.back (up_as
     (λ other at bytes is. (is, changed, inr refl)) c.in_err-write_below.ensures.back))
 
 pub write_back-returns-clause-back : goal.write_back-returns-clause-back
 write_back-returns-clause-back g t c =
     let changed : c.args.victim.now.changed ≡ true = search rules in
-    up_climbed g.T.Tagger.data_tag_of g.T.Tagger.node_tag_of (c.args.level + 1) (c.args.level + 1) (IsVictim c.args.level c.args.victim.now None) c.args.self.now c.parent_present.new.self c.write_below.new.self (g.B.Bus.history c.args.bus.now) (g.B.Bus.history c.parent_present.new.bus) (g.B.Bus.history c.write_below.new.bus) c.args.tags.now c.parent_present.new.tags c.write_below.new.tags None
-    c.in_ok-parent_present.ensures.climbs c.in_ok-write_below.ensures.climbs.moves
-    c.in_ok-parent_present.ensures.back
-    (up_as _ (c.args.level + 1) (IsBlockOf c.args.level c.args.victim.now.place c.args.victim.now.copy) (IsVictim c.args.level c.args.victim.now None) c.parent_present.new.self c.write_below.new.self (g.B.Bus.history c.parent_present.new.bus) (g.B.Bus.history c.write_below.new.bus) c.parent_present.new.tags.made c.write_below.new.tags.made None
+    up_climbed g.T.Tagger.data_tag_of g.T.Tagger.node_tag_of
+    c.in_ok-parent_present.ensures.climbs c.in_ok-write_below.ensures.climbs.moves c.in_ok-parent_present.ensures.back (up_as
     (λ other at bytes is. (is, changed, inl refl)) c.in_ok-write_below.ensures.back)
 
 pub write_back-returns-clause-written : goal.write_back-returns-clause-written
@@ -225,8 +200,7 @@ write_back-returns-clause-written g t c = λ changed.
     c.in_ok-parent_present.ensures.climbs.moves.more c.in_ok-parent_present.ensures.climbs.moves.made c.in_ok-write_below.ensures.made
 
 pub make_room-returns-in_default-clause-back : goal.make_room-returns-in_default-clause-back
-make_room-returns-in_default-clause-back g t c =
-    up_same _ c.args.level NoNode c.args.self.now c.args.self.now (g.B.Bus.history c.args.bus.now) (g.B.Bus.history c.args.bus.now) c.args.tags.now.made c.args.tags.now.made None (λ place. omega arith) refl (λ level index. refl)
+make_room-returns-in_default-clause-back g t c = up_same (λ place. omega arith) refl (λ level index. refl)
 
 pub make_room-returns-in_err-write_back-clause-back : goal.make_room-returns-in_err-write_back-clause-back
 make_room-returns-in_err-write_back-clause-back g t c =
@@ -234,9 +208,7 @@ make_room-returns-in_err-write_back-clause-back g t c =
     let stop : result_err c.from_residual.result ≡ Some why = search rules in
     let way : node_way c.args.self.now.caches c.args.level c.in-Some.victim.place ≡ Some c.in-Some.victim =
     sym (ap (λ (v : TreeView). node_way v.caches c.args.level c.in-Some.victim.place) c.self.view_is) ∙ c.in-Some.ensures.way in
-    subst (λ (s : Option MemStop). WritesUp (EndsQuietly (tags_of g.T.Tagger.data_tag_of g.T.Tagger.node_tag_of) c.args.self.now (g.B.Bus.history c.args.bus.now) c.args.tags.now c.write_back.new.tags) c.args.level NoNode c.args.self.now (g.B.Bus.history c.args.bus.now) c.args.tags.now.made c.write_back.new.self (g.B.Bus.history c.write_back.new.bus) c.write_back.new.tags.made s) (sym stop)
-    (up_victim _ c.args.level c.in-Some.victim c.args.self.now c.write_back.new.self c.write_back.new.self (g.B.Bus.history c.args.bus.now) (g.B.Bus.history c.write_back.new.bus) c.args.tags.now.made c.write_back.new.tags.made (Some why)
-    c.in_err-write_back.ensures.climbs.moves.reads (ap (option_map copy_of) way)
+    rw stop (up_victim c.in-Some.victim c.in_err-write_back.ensures.climbs.moves.reads (ap (option_map copy_of) way)
     (λ at. ap (λ (cache : List (List Way)). option_map copy_of (way_at cache at)) c.in_err-write_back.ensures.copies)
     (λ none. absurd (cc)) (λ copy found. found) (λ other at apart. refl) (λ changed. inl (λ marked. marked)) c.in_err-write_back.ensures.back)
 
@@ -244,67 +216,57 @@ pub make_room-returns-clause-back : goal.make_room-returns-clause-back
 make_room-returns-clause-back g t c =
     let way : node_way c.args.self.now.caches c.args.level c.in-Some.victim.place ≡ Some c.in-Some.victim =
     sym (ap (λ (v : TreeView). node_way v.caches c.args.level c.in-Some.victim.place) c.self.view_is) ∙ c.in-Some.ensures.way in
-    up_victim _ c.args.level c.in-Some.victim c.args.self.now c.write_back.new.self (tree_of c.self-2.inside.root c.remove.new.self) (g.B.Bus.history c.args.bus.now) (g.B.Bus.history c.write_back.new.bus) c.args.tags.now.made c.write_back.new.tags.made None
-    c.in_ok-write_back.ensures.climbs.moves.reads (ap (option_map copy_of) way)
+    up_victim c.in-Some.victim c.in_ok-write_back.ensures.climbs.moves.reads (ap (option_map copy_of) way)
     (λ at. ap (λ (cache : List (List Way)). option_map copy_of (way_at cache at)) c.in_ok-write_back.ensures.copies)
     (λ going. ap (option_map copy_of) c.remove.ensures.removed)
     (λ copy found. let none : None ≡ Some copy = sym (ap (option_map copy_of) c.remove.ensures.removed) ∙ found in absurd (cc))
-    (same_as c.write_back.new.self c.self-2.inside.root c.self-2.inside.nodes c.remove.new.self c.self-2.view_is c.args.level c.in-Some.victim.place c.remove.ensures.same)
+    (same_as c.self-2.inside.root c.self-2.inside.nodes c.remove.new.self c.self-2.view_is c.args.level c.in-Some.victim.place c.remove.ensures.same)
     (λ changed. inr (c.in_ok-write_back.ensures.written changed)) c.in_ok-write_back.ensures.back
 
 pub present-returns-then-touch-clause-back : goal.present-returns-then-touch-clause-back
 present-returns-then-touch-clause-back g t c =
-    up_same _ c.args.level NoNode c.args.self.now (tree_of c.self.inside.root c.touch.new.self) (g.B.Bus.history c.args.bus.now) (g.B.Bus.history c.args.bus.now) c.args.tags.now.made c.args.tags.now.made None (λ place. omega arith) refl
-    (all_as c.args.self.now c.self.inside.root c.self.inside.nodes c.touch.new.self c.self.view_is c.if-touch.ensures.same)
+    up_same (λ place. omega arith) refl
+    (all_as c.self.inside.root c.self.inside.nodes c.touch.new.self c.self.view_is c.if-touch.ensures.same)
 
 pub present-returns-in_err-make_room-clause-back : goal.present-returns-in_err-make_room-clause-back
 present-returns-in_err-make_room-clause-back g t c =
     let why = c.in_err-make_room.field-0.0 in
     let stop : result_err c.from_residual.result ≡ Some why = search rules in
-    subst (λ (s : Option MemStop). WritesUp (EndsQuietly (tags_of g.T.Tagger.data_tag_of g.T.Tagger.node_tag_of) c.args.self.now (g.B.Bus.history c.args.bus.now) c.args.tags.now c.make_room.new.tags) c.args.level NoNode c.args.self.now (g.B.Bus.history c.args.bus.now) c.args.tags.now.made c.make_room.new.self (g.B.Bus.history c.make_room.new.bus) c.make_room.new.tags.made s) (sym stop)
-    (up_climbed g.T.Tagger.data_tag_of g.T.Tagger.node_tag_of c.args.level c.args.level NoNode c.args.self.now (tree_of c.self.inside.root c.touch.new.self) c.make_room.new.self (g.B.Bus.history c.args.bus.now) (g.B.Bus.history c.args.bus.now) (g.B.Bus.history c.make_room.new.bus) c.args.tags.now c.args.tags.now c.make_room.new.tags (Some why)
+    rw stop (up_climbed g.T.Tagger.data_tag_of g.T.Tagger.node_tag_of
     (climbs_touched g.T.Tagger.data_tag_of g.T.Tagger.node_tag_of c.args.level c.args.self.now c.self.inside.root c.self.inside.nodes c.touch.new.self (g.B.Bus.history c.args.bus.now) c.args.tags.now c.self.view_is c.if-touch.ensures.geometry c.if-touch.ensures.nodes c.if-touch.ensures.others c.if-touch.ensures.same) c.in_err-make_room.ensures.climbs.moves
-    (up_same _ c.args.level NoNode c.args.self.now (tree_of c.self.inside.root c.touch.new.self) (g.B.Bus.history c.args.bus.now) (g.B.Bus.history c.args.bus.now) c.args.tags.now.made c.args.tags.now.made None (λ place. omega arith) refl
-    (all_as c.args.self.now c.self.inside.root c.self.inside.nodes c.touch.new.self c.self.view_is c.if-touch.ensures.same))
+    (up_same (λ place. omega arith) refl
+    (all_as c.self.inside.root c.self.inside.nodes c.touch.new.self c.self.view_is c.if-touch.ensures.same))
     c.in_err-make_room.ensures.back)
 
 pub present-returns-in_err-parent_present-clause-back : goal.present-returns-in_err-parent_present-clause-back
 present-returns-in_err-parent_present-clause-back g t c =
     let why = c.in_err-parent_present.field-0.0 in
     let stop : result_err c.from_residual-in_err-parent_present.result ≡ Some why = search rules in
-    subst (λ (s : Option MemStop). WritesUp (EndsQuietly (tags_of g.T.Tagger.data_tag_of g.T.Tagger.node_tag_of) c.args.self.now (g.B.Bus.history c.args.bus.now) c.args.tags.now c.parent_present.new.tags) c.args.level NoNode c.args.self.now (g.B.Bus.history c.args.bus.now) c.args.tags.now.made c.parent_present.new.self (g.B.Bus.history c.parent_present.new.bus) c.parent_present.new.tags.made s) (sym stop)
-    (up_climbed g.T.Tagger.data_tag_of g.T.Tagger.node_tag_of c.args.level c.args.level NoNode c.args.self.now c.make_room.new.self c.parent_present.new.self (g.B.Bus.history c.args.bus.now) (g.B.Bus.history c.make_room.new.bus) (g.B.Bus.history c.parent_present.new.bus) c.args.tags.now c.make_room.new.tags c.parent_present.new.tags (Some why)
-    (climbs_on g.T.Tagger.data_tag_of g.T.Tagger.node_tag_of c.args.level c.args.self.now (tree_of c.self.inside.root c.touch.new.self) c.make_room.new.self (g.B.Bus.history c.args.bus.now) (g.B.Bus.history c.args.bus.now) (g.B.Bus.history c.make_room.new.bus) c.args.tags.now c.args.tags.now c.make_room.new.tags None
+    rw stop (up_climbed g.T.Tagger.data_tag_of g.T.Tagger.node_tag_of (climbs_on g.T.Tagger.data_tag_of g.T.Tagger.node_tag_of
     (climbs_touched g.T.Tagger.data_tag_of g.T.Tagger.node_tag_of c.args.level c.args.self.now c.self.inside.root c.self.inside.nodes c.touch.new.self (g.B.Bus.history c.args.bus.now) c.args.tags.now c.self.view_is c.if-touch.ensures.geometry c.if-touch.ensures.nodes c.if-touch.ensures.others c.if-touch.ensures.same)
     c.in_ok-make_room.ensures.climbs) c.in_err-parent_present.ensures.climbs.moves
-    (up_climbed g.T.Tagger.data_tag_of g.T.Tagger.node_tag_of c.args.level c.args.level NoNode c.args.self.now (tree_of c.self.inside.root c.touch.new.self) c.make_room.new.self (g.B.Bus.history c.args.bus.now) (g.B.Bus.history c.args.bus.now) (g.B.Bus.history c.make_room.new.bus) c.args.tags.now c.args.tags.now c.make_room.new.tags None
+    (up_climbed g.T.Tagger.data_tag_of g.T.Tagger.node_tag_of
     (climbs_touched g.T.Tagger.data_tag_of g.T.Tagger.node_tag_of c.args.level c.args.self.now c.self.inside.root c.self.inside.nodes c.touch.new.self (g.B.Bus.history c.args.bus.now) c.args.tags.now c.self.view_is c.if-touch.ensures.geometry c.if-touch.ensures.nodes c.if-touch.ensures.others c.if-touch.ensures.same) c.in_ok-make_room.ensures.climbs.moves
-    (up_same _ c.args.level NoNode c.args.self.now (tree_of c.self.inside.root c.touch.new.self) (g.B.Bus.history c.args.bus.now) (g.B.Bus.history c.args.bus.now) c.args.tags.now.made c.args.tags.now.made None (λ place. omega arith) refl
-    (all_as c.args.self.now c.self.inside.root c.self.inside.nodes c.touch.new.self c.self.view_is c.if-touch.ensures.same))
-    c.in_ok-make_room.ensures.back)
-    (up_wider _ c.args.level (c.args.level + 1) c.make_room.new.self c.parent_present.new.self (g.B.Bus.history c.make_room.new.bus) (g.B.Bus.history c.parent_present.new.bus) c.make_room.new.tags.made c.parent_present.new.tags.made (Some why) (omega arith)
-    c.in_err-parent_present.ensures.climbs.moves.reads
+    (up_same (λ place. omega arith) refl
+    (all_as c.self.inside.root c.self.inside.nodes c.touch.new.self c.self.view_is c.if-touch.ensures.same))
+    c.in_ok-make_room.ensures.back) (up_wider (omega arith) c.in_err-parent_present.ensures.climbs.moves.reads
     (λ other at low. ap (λ (cache : List (List Way)). option_map copy_of (way_at cache at)) (c.in_err-parent_present.ensures.climbs.copies other low)) c.in_err-parent_present.ensures.back))
 
 pub present-returns-clause-back : goal.present-returns-clause-back
 present-returns-clause-back g t c =
-    up_climbed g.T.Tagger.data_tag_of g.T.Tagger.node_tag_of c.args.level c.args.level NoNode c.args.self.now c.parent_present.new.self c.read_in.new.self (g.B.Bus.history c.args.bus.now) (g.B.Bus.history c.parent_present.new.bus) (g.B.Bus.history c.read_in.new.bus) c.args.tags.now c.parent_present.new.tags c.read_in.new.tags (result_err c.read_in.result)
-    (climbs_on g.T.Tagger.data_tag_of g.T.Tagger.node_tag_of c.args.level c.args.self.now c.make_room.new.self c.parent_present.new.self (g.B.Bus.history c.args.bus.now) (g.B.Bus.history c.make_room.new.bus) (g.B.Bus.history c.parent_present.new.bus) c.args.tags.now c.make_room.new.tags c.parent_present.new.tags None
-    (climbs_on g.T.Tagger.data_tag_of g.T.Tagger.node_tag_of c.args.level c.args.self.now (tree_of c.self.inside.root c.touch.new.self) c.make_room.new.self (g.B.Bus.history c.args.bus.now) (g.B.Bus.history c.args.bus.now) (g.B.Bus.history c.make_room.new.bus) c.args.tags.now c.args.tags.now c.make_room.new.tags None
+    up_climbed g.T.Tagger.data_tag_of g.T.Tagger.node_tag_of (climbs_on g.T.Tagger.data_tag_of g.T.Tagger.node_tag_of
+    (climbs_on g.T.Tagger.data_tag_of g.T.Tagger.node_tag_of
     (climbs_touched g.T.Tagger.data_tag_of g.T.Tagger.node_tag_of c.args.level c.args.self.now c.self.inside.root c.self.inside.nodes c.touch.new.self (g.B.Bus.history c.args.bus.now) c.args.tags.now c.self.view_is c.if-touch.ensures.geometry c.if-touch.ensures.nodes c.if-touch.ensures.others c.if-touch.ensures.same)
     c.in_ok-make_room.ensures.climbs)
-    (climbs_up g.T.Tagger.data_tag_of g.T.Tagger.node_tag_of c.args.level (c.args.level + 1) c.make_room.new.self c.parent_present.new.self (g.B.Bus.history c.make_room.new.bus) (g.B.Bus.history c.parent_present.new.bus) c.make_room.new.tags c.parent_present.new.tags None (omega arith) c.in_ok-parent_present.ensures.climbs)) c.read_in.ensures.climbs.moves
-    (up_climbed g.T.Tagger.data_tag_of g.T.Tagger.node_tag_of c.args.level c.args.level NoNode c.args.self.now c.make_room.new.self c.parent_present.new.self (g.B.Bus.history c.args.bus.now) (g.B.Bus.history c.make_room.new.bus) (g.B.Bus.history c.parent_present.new.bus) c.args.tags.now c.make_room.new.tags c.parent_present.new.tags None
-    (climbs_on g.T.Tagger.data_tag_of g.T.Tagger.node_tag_of c.args.level c.args.self.now (tree_of c.self.inside.root c.touch.new.self) c.make_room.new.self (g.B.Bus.history c.args.bus.now) (g.B.Bus.history c.args.bus.now) (g.B.Bus.history c.make_room.new.bus) c.args.tags.now c.args.tags.now c.make_room.new.tags None
+    (climbs_up g.T.Tagger.data_tag_of g.T.Tagger.node_tag_of (omega arith) c.in_ok-parent_present.ensures.climbs)) c.read_in.ensures.climbs.moves
+    (up_climbed g.T.Tagger.data_tag_of g.T.Tagger.node_tag_of (climbs_on g.T.Tagger.data_tag_of g.T.Tagger.node_tag_of
     (climbs_touched g.T.Tagger.data_tag_of g.T.Tagger.node_tag_of c.args.level c.args.self.now c.self.inside.root c.self.inside.nodes c.touch.new.self (g.B.Bus.history c.args.bus.now) c.args.tags.now c.self.view_is c.if-touch.ensures.geometry c.if-touch.ensures.nodes c.if-touch.ensures.others c.if-touch.ensures.same)
     c.in_ok-make_room.ensures.climbs) c.in_ok-parent_present.ensures.climbs.moves
-    (up_climbed g.T.Tagger.data_tag_of g.T.Tagger.node_tag_of c.args.level c.args.level NoNode c.args.self.now (tree_of c.self.inside.root c.touch.new.self) c.make_room.new.self (g.B.Bus.history c.args.bus.now) (g.B.Bus.history c.args.bus.now) (g.B.Bus.history c.make_room.new.bus) c.args.tags.now c.args.tags.now c.make_room.new.tags None
+    (up_climbed g.T.Tagger.data_tag_of g.T.Tagger.node_tag_of
     (climbs_touched g.T.Tagger.data_tag_of g.T.Tagger.node_tag_of c.args.level c.args.self.now c.self.inside.root c.self.inside.nodes c.touch.new.self (g.B.Bus.history c.args.bus.now) c.args.tags.now c.self.view_is c.if-touch.ensures.geometry c.if-touch.ensures.nodes c.if-touch.ensures.others c.if-touch.ensures.same) c.in_ok-make_room.ensures.climbs.moves
-    (up_same _ c.args.level NoNode c.args.self.now (tree_of c.self.inside.root c.touch.new.self) (g.B.Bus.history c.args.bus.now) (g.B.Bus.history c.args.bus.now) c.args.tags.now.made c.args.tags.now.made None (λ place. omega arith) refl
-    (all_as c.args.self.now c.self.inside.root c.self.inside.nodes c.touch.new.self c.self.view_is c.if-touch.ensures.same))
-    c.in_ok-make_room.ensures.back)
-    (up_wider _ c.args.level (c.args.level + 1) c.make_room.new.self c.parent_present.new.self (g.B.Bus.history c.make_room.new.bus) (g.B.Bus.history c.parent_present.new.bus) c.make_room.new.tags.made c.parent_present.new.tags.made None (omega arith)
-    c.in_ok-parent_present.ensures.climbs.moves.reads
+    (up_same (λ place. omega arith) refl
+    (all_as c.self.inside.root c.self.inside.nodes c.touch.new.self c.self.view_is c.if-touch.ensures.same))
+    c.in_ok-make_room.ensures.back) (up_wider (omega arith) c.in_ok-parent_present.ensures.climbs.moves.reads
     (λ other at low. ap (λ (cache : List (List Way)). option_map copy_of (way_at cache at)) (c.in_ok-parent_present.ensures.climbs.copies other low)) c.in_ok-parent_present.ensures.back))
     c.read_in.ensures.back
 
@@ -316,22 +278,19 @@ write_back-returns-clause-copies g t c =
 -- What copies go out for
 
 pub parent_present-returns-then-level-levels-clause-out_for : goal.parent_present-returns-then-level-levels-clause-out_for
-parent_present-returns-then-level-levels-clause-out_for g t c =
-    λ holds quiet. out_kept c.args.self.now c.args.self.now (g.B.Bus.history c.args.bus.now) (g.B.Bus.history c.args.bus.now) c.args.tags.now.made (λ level index held. held)
+parent_present-returns-then-level-levels-clause-out_for g t c = λ holds quiet. out_kept (λ level index held. held)
 
 pub write_back-returns-then-not-victim-clause-out_for : goal.write_back-returns-then-not-victim-clause-out_for
-write_back-returns-then-not-victim-clause-out_for g t c =
-    λ holds quiet. out_kept c.args.self.now c.args.self.now (g.B.Bus.history c.args.bus.now) (g.B.Bus.history c.args.bus.now) c.args.tags.now.made (λ level index held. held)
+write_back-returns-then-not-victim-clause-out_for g t c = λ holds quiet. out_kept (λ level index held. held)
 
 pub write_back-returns-clause-out_for : goal.write_back-returns-clause-out_for
 write_back-returns-clause-out_for g t c =
     λ holds quiet.
     let climbs = c.in_ok-parent_present.ensures.climbs in
     let still = was_none c.parent_present.new.tags.evidence c.write_below.new.tags.evidence c.in_ok-write_below.ensures.climbs.moves.evidence quiet in
-    out_on c.args.self.now c.parent_present.new.self c.write_below.new.self (g.B.Bus.history c.args.bus.now) (g.B.Bus.history c.parent_present.new.bus) (g.B.Bus.history c.write_below.new.bus)
-    c.args.tags.now.made c.parent_present.new.tags.made climbs.geometry climbs.moves.reads c.in_ok-write_below.ensures.climbs.moves.reads
+    out_on climbs.geometry climbs.moves.reads c.in_ok-write_below.ensures.climbs.moves.reads
     (unmade_before c.args.tags.now.made c.parent_present.new.tags.made climbs.moves.more climbs.moves.made) (c.in_ok-parent_present.ensures.out_for holds still)
-    (out_kept c.parent_present.new.self c.write_below.new.self (g.B.Bus.history c.parent_present.new.bus) (g.B.Bus.history c.write_below.new.bus) c.parent_present.new.tags.made c.in_ok-write_below.ensures.kept)
+    (out_kept c.in_ok-write_below.ensures.kept)
 
 pub make_room-returns-in_default-clause-out_for : goal.make_room-returns-in_default-clause-out_for
 make_room-returns-in_default-clause-out_for g t c = λ holds quiet. room_kept c.args.level c.args.index c.args.self.now (g.B.Bus.history c.args.bus.now) c.args.tags.now.made
@@ -339,21 +298,20 @@ make_room-returns-in_default-clause-out_for g t c = λ holds quiet. room_kept c.
 pub make_room-returns-clause-out_for : goal.make_room-returns-clause-out_for
 make_room-returns-clause-out_for g t c =
     λ holds quiet.
-    room_made c.args.level c.args.index c.in-Some.victim.place c.args.self.now c.write_back.new.self (tree_of c.self-2.inside.root c.remove.new.self) (g.B.Bus.history c.args.bus.now) (g.B.Bus.history c.write_back.new.bus)
-    c.args.tags.now.made c.in-Some.ensures.beside
-    (same_as c.write_back.new.self c.self-2.inside.root c.self-2.inside.nodes c.remove.new.self c.self-2.view_is c.args.level c.in-Some.victim.place c.remove.ensures.same)
+    room_made c.in-Some.victim.place c.in-Some.ensures.beside
+    (same_as c.self-2.inside.root c.self-2.inside.nodes c.remove.new.self c.self-2.view_is c.args.level c.in-Some.victim.place c.remove.ensures.same)
     (c.in_ok-write_back.ensures.out_for holds quiet)
 
 pub present-returns-then-touch-clause-out_for : goal.present-returns-then-touch-clause-out_for
 present-returns-then-touch-clause-out_for g t c =
     λ holds quiet.
-    out_kept c.args.self.now (tree_of c.self.inside.root c.touch.new.self) (g.B.Bus.history c.args.bus.now) (g.B.Bus.history c.args.bus.now) c.args.tags.now.made
-    (λ level index held none. held (sym (all_as c.args.self.now c.self.inside.root c.self.inside.nodes c.touch.new.self c.self.view_is c.if-touch.ensures.same level index) ∙ none))
+    out_kept
+    (λ level index held none. held (sym (all_as c.self.inside.root c.self.inside.nodes c.touch.new.self c.self.view_is c.if-touch.ensures.same level index) ∙ none))
 
 pub present-returns-clause-out_for : goal.present-returns-clause-out_for
 present-returns-clause-out_for g t c = λ holds quiet.
-    let same = all_as c.args.self.now c.self.inside.root c.self.inside.nodes c.touch.new.self c.self.view_is c.if-touch.ensures.same in
-    let geometry = geometry_as c.args.self.now c.self.inside.root c.self.inside.nodes c.touch.new.self c.self.view_is c.if-touch.ensures.geometry in
+    let same = all_as c.self.inside.root c.self.inside.nodes c.touch.new.self c.self.view_is c.if-touch.ensures.same in
+    let geometry = geometry_as c.self.inside.root c.self.inside.nodes c.touch.new.self c.self.view_is c.if-touch.ensures.geometry in
     let touched =
     climbs_touched g.T.Tagger.data_tag_of g.T.Tagger.node_tag_of c.args.level c.args.self.now c.self.inside.root c.self.inside.nodes c.touch.new.self (g.B.Bus.history c.args.bus.now) c.args.tags.now c.self.view_is c.if-touch.ensures.geometry c.if-touch.ensures.nodes c.if-touch.ensures.others c.if-touch.ensures.same in
     let room = c.in_ok-make_room.ensures.climbs in
@@ -365,9 +323,7 @@ present-returns-clause-out_for g t c = λ holds quiet.
     let quiet_room = was_none c.make_room.new.tags.evidence c.parent_present.new.tags.evidence parent.moves.evidence quiet_parent in
     let unmade = unmade_before c.args.tags.now.made c.make_room.new.tags.made room.moves.more room.moves.made in
     on_ok c.read_in.result (c.read_in.ensures.came (parent.holds holds_room going) quiet)
-    (out_came c.args.level c.args.index c.args.self.now (tree_of c.self.inside.root c.touch.new.self) c.make_room.new.self c.parent_present.new.self c.read_in.new.self
-    (g.B.Bus.history c.args.bus.now) (g.B.Bus.history c.make_room.new.bus) (g.B.Bus.history c.parent_present.new.bus) (g.B.Bus.history c.read_in.new.bus)
-    c.args.tags.now.made c.make_room.new.tags.made c.parent_present.new.tags.made c.requires.node geometry (room.geometry ∙ geometry) same
+    (out_came c.parent_present.new.tags.made c.requires.node geometry (room.geometry ∙ geometry) same
     (not_held c.args.self.now c.self.inside.root c.self.inside.nodes c.args.level c.args.index c.self.view_is (c.if-touch.ensures.absent refl))
     room.moves.reads parent.moves.reads c.read_in.ensures.climbs.moves.reads unmade
     (λ other at none. unmade other at (unmade_before c.make_room.new.tags.made c.parent_present.new.tags.made parent.moves.more parent.moves.made other at none))
@@ -388,8 +344,7 @@ parent_present-returns-clause-had g t c =
     ap (λ (node : ℕ × ℕ). node.1) c.parent.ensures.parent ∙ ap (λ (k : GeometryView). c.args.index / arity k) geometry_is in
     on_ok c.present.result c.present.ensures.had (λ had. record {
       had =
-          nodes_wider _ _ (c.args.level + 1) c.args.self.now c.present.new.self (g.B.Bus.history c.args.bus.now) (g.B.Bus.history c.present.new.bus)
-          (climb_parent geometry geometry more more refl (λ message listed. listed) c.args.level c.args.index)
+          nodes_wider _ _ (climb_parent more more refl (λ message listed. listed) c.args.level c.args.index)
           (subst (λ (index : ℕ). NodesHad (MayClimb geometry (c.args.level + 1) index more) (c.args.level + 1) c.args.self.now (g.B.Bus.history c.args.bus.now)
           c.present.new.self (g.B.Bus.history c.present.new.bus)) parent_is had);
       unread = λ index. c.present.ensures.climbs.reads c.args.level index (omega arith);
@@ -409,13 +364,11 @@ write_back-returns-clause-had g t c =
     let own : List Message = Node c.args.level c.args.victim.now.place c.args.victim.now.copy ∷ [] in
     record {
       had =
-          had_still _ (c.args.level + 1) c.args.self.now c.parent_present.new.self c.write_below.new.self (g.B.Bus.history c.args.bus.now) (g.B.Bus.history c.parent_present.new.bus)
-          (g.B.Bus.history c.write_below.new.bus)
-          (nodes_wider _ _ (c.args.level + 1) c.args.self.now c.parent_present.new.self (g.B.Bus.history c.args.bus.now) (g.B.Bus.history c.parent_present.new.bus)
-          (climb_made geometry geometry (since c.args.tags.now.made c.parent_present.new.tags.made) (since c.args.tags.now.made c.write_below.new.tags.made) refl
-          (since_before c.args.tags.now.made c.parent_present.new.tags.made c.write_below.new.tags.made parent.more own parent.made c.in_ok-write_below.ensures.made)
+          had_still (nodes_wider _ _
+          (climb_made (since c.args.tags.now.made c.parent_present.new.tags.made) (since c.args.tags.now.made c.write_below.new.tags.made) refl
+          (since_before c.args.tags.now.made parent.more own parent.made c.in_ok-write_below.ensures.made)
           c.args.level c.args.victim.now.place c.args.victim.now.copy
-          (since_after c.args.tags.now.made c.parent_present.new.tags.made c.write_below.new.tags.made parent.more own parent.made c.in_ok-write_below.ensures.made
+          (since_after c.args.tags.now.made parent.more own parent.made c.in_ok-write_below.ensures.made
           (Node c.args.level c.args.victim.now.place c.args.victim.now.copy) (Contains-push [] (Node c.args.level c.args.victim.now.place c.args.victim.now.copy))))
           c.in_ok-parent_present.ensures.had.had) c.in_ok-write_below.ensures.orders (λ level index high. unread level index);
       unread = λ index. unread c.args.level index ∙ c.in_ok-parent_present.ensures.had.unread index;
@@ -446,7 +399,7 @@ make_room-returns-clause-had g t c =
       above = c.in_ok-write_back.ensures.had;
       room =
           removed_here c.write_back.new.self (tree_of c.self-2.inside.root c.remove.new.self) c.args.level (are.each c.args.level c.requires.above inside)
-          (others_as c.write_back.new.self c.self-2.inside.root c.self-2.inside.nodes c.remove.new.self c.self-2.view_is c.args.level c.remove.ensures.others) c.args.index
+          (others_as c.self-2.inside.root c.self-2.inside.nodes c.remove.new.self c.self-2.view_is c.args.level c.remove.ensures.others) c.args.index
           c.in-Some.victim (ap (λ (cache : List (List Way)). way_at cache c.args.index) c.in_ok-write_back.ensures.copies ∙ c.requires.absent)
           (ap (λ (cache : List (List Way)). victim_for cache c.args.index) c.in_ok-write_back.ensures.copies ∙ goes) c.in-Some.ensures.beside
           (subst (λ (v : TreeView). level_cache c.remove.new.self.caches c.args.level ≡ with_set (level_cache v.caches c.args.level) c.in-Some.victim.place
@@ -457,10 +410,10 @@ pub present-returns-then-touch-clause-had : goal.present-returns-then-touch-clau
 present-returns-then-touch-clause-had g t c =
     let are : AreNodeCaches c.args.self.now.geometry c.args.self.now.caches =
     subst (λ (v : TreeView). AreNodeCaches v.geometry v.caches) c.self.view_is c.self.invariant in
-    had_one _ c.args.level c.args.index c.args.self.now (tree_of c.self.inside.root c.touch.new.self) (g.B.Bus.history c.args.bus.now)
+    had_one c.args.index
     (climb_here c.args.self.now.geometry c.args.level c.args.index (since c.args.tags.now.made c.args.tags.now.made))
     (touched_here c.args.self.now (tree_of c.self.inside.root c.touch.new.self) c.args.level (are.each c.args.level c.requires.above c.requires.node.0)
-    (others_as c.args.self.now c.self.inside.root c.self.inside.nodes c.touch.new.self c.self.view_is c.args.level c.if-touch.ensures.others) c.args.index
+    (others_as c.self.inside.root c.self.inside.nodes c.touch.new.self c.self.view_is c.args.level c.if-touch.ensures.others) c.args.index
     (subst (λ (v : TreeView). IsSome (node_way v.caches c.args.level c.args.index)) c.self.view_is (c.if-touch.ensures.held.0 refl))
     (subst (λ (v : TreeView). level_cache c.touch.new.self.caches c.args.level ≡ with_set (level_cache v.caches c.args.level) c.args.index
     (touched c.args.index (set_at (level_cache v.caches c.args.level) c.args.index))) c.self.view_is c.if-touch.ensures.after))
@@ -473,29 +426,22 @@ present-returns-clause-had g t c =
     let none : node_way c.args.self.now.caches c.args.level c.args.index ≡ None =
     subst (λ (v : TreeView). node_way v.caches c.args.level c.args.index ≡ None) c.self.view_is (c.if-touch.ensures.absent refl) in
     let same = touched_same c.args.self.now (tree_of c.self.inside.root c.touch.new.self) c.args.level cache
-    (others_as c.args.self.now c.self.inside.root c.self.inside.nodes c.touch.new.self c.self.view_is c.args.level c.if-touch.ensures.others) c.args.index none
+    (others_as c.self.inside.root c.self.inside.nodes c.touch.new.self c.self.view_is c.args.level c.if-touch.ensures.others) c.args.index none
     (subst (λ (v : TreeView). level_cache c.touch.new.self.caches c.args.level ≡ with_set (level_cache v.caches c.args.level) c.args.index
     (touched c.args.index (set_at (level_cache v.caches c.args.level) c.args.index))) c.self.view_is c.if-touch.ensures.after) in
-    let geometry = geometry_as c.args.self.now c.self.inside.root c.self.inside.nodes c.touch.new.self c.self.view_is c.if-touch.ensures.geometry in
+    let geometry = geometry_as c.self.inside.root c.self.inside.nodes c.touch.new.self c.self.view_is c.if-touch.ensures.geometry in
     let room = c.in_ok-make_room.ensures.climbs in
     let parent = c.in_ok-parent_present.ensures.climbs.moves in
     let read = c.read_in.ensures.climbs.moves in
     let made = c.args.tags.now.made in
     let all = since made c.read_in.new.tags.made in
-    on_ok c.read_in.result c.read_in.ensures.had
-    (had_came (MayClimb c.args.self.now.geometry c.args.level c.args.index all)
-    c.args.level c.args.index c.args.self.now (tree_of c.self.inside.root c.touch.new.self) c.make_room.new.self c.parent_present.new.self c.read_in.new.self
-    (g.B.Bus.history c.args.bus.now) (g.B.Bus.history c.make_room.new.bus) (g.B.Bus.history c.parent_present.new.bus) (g.B.Bus.history c.read_in.new.bus)
-    (climb_here c.args.self.now.geometry c.args.level c.args.index all)
-    same (unlisted c.args.self.now c.args.level c.args.index cache none)
-    (room_wider _ _ c.args.level c.args.index (tree_of c.self.inside.root c.touch.new.self) c.make_room.new.self (g.B.Bus.history c.args.bus.now) (g.B.Bus.history c.make_room.new.bus)
-    (λ other at high above. inr (made_wider c.args.self.now.geometry c.touch.new.self.geometry (since made c.make_room.new.tags.made) all geometry
-    (since_first made c.make_room.new.tags.made c.parent_present.new.tags.made c.read_in.new.tags.made room.moves.more parent.more read.more room.moves.made parent.made read.made)
-    other at above)) c.in_ok-make_room.ensures.had)
-    (above_wider _ _ c.args.level c.make_room.new.self c.parent_present.new.self (g.B.Bus.history c.make_room.new.bus) (g.B.Bus.history c.parent_present.new.bus)
-    (λ other at high. climb_wider c.args.self.now.geometry c.make_room.new.self.geometry (since c.make_room.new.tags.made c.parent_present.new.tags.made) all
-    (room.geometry ∙ geometry)
-    (since_second made c.make_room.new.tags.made c.parent_present.new.tags.made c.read_in.new.tags.made room.moves.more parent.more read.more room.moves.made parent.made read.made)
+    on_ok c.read_in.result c.read_in.ensures.had (had_came _ _ _ _ _ _ _ _ _ _ _ _ (climb_here c.args.self.now.geometry c.args.level c.args.index all)
+    same (unlisted c.args.self.now c.args.level c.args.index cache none) (room_wider _ _
+    (λ other at high above. inr (made_wider (since made c.make_room.new.tags.made) all geometry
+    (since_first made room.moves.more parent.more read.more room.moves.made parent.made read.made)
+    other at above)) c.in_ok-make_room.ensures.had) (above_wider _ _
+    (λ other at high. climb_wider (since c.make_room.new.tags.made c.parent_present.new.tags.made) all (room.geometry ∙ geometry)
+    (since_second made room.moves.more parent.more read.more room.moves.made parent.made read.made)
     c.args.level c.args.index other at) c.in_ok-parent_present.ensures.had))
 
 -- Which accesses they make
@@ -522,8 +468,7 @@ write_back-returns-in_err-parent_present-clause-makes g t c =
     let climbed = c.in_err-parent_present.ensures.makes in (
       climbed.0,
       climbed.1,
-      subst (λ (s : Option MemStop). Makes (tags_of g.T.Tagger.data_tag_of g.T.Tagger.node_tag_of c.args.tags.now) (λ used. HoldsTree (tags_of g.T.Tagger.data_tag_of g.T.Tagger.node_tag_of) c.args.self.now (g.B.Bus.history c.args.bus.now) c.args.tags.now)
-          (g.B.Bus.history c.args.bus.now) c.args.tags.now (g.B.Bus.history c.parent_present.new.bus) c.parent_present.new.tags climbed.0 s) (sym stop)
+      rw stop
           (climbed.2),
     )
 
@@ -534,10 +479,8 @@ write_back-returns-in_err-write_below-clause-makes g t c =
     let wrote = c.in_err-write_below.ensures.makes in (
       climbed.0 ++ wrote.0,
       g.met.B.Bus.moved_on c.args.bus.now c.parent_present.new.bus c.write_below.new.bus climbed.0 wrote.0 climbed.1 wrote.1,
-      subst (λ (s : Option MemStop). Makes (tags_of g.T.Tagger.data_tag_of g.T.Tagger.node_tag_of c.args.tags.now) (λ used. HoldsTree (tags_of g.T.Tagger.data_tag_of g.T.Tagger.node_tag_of) c.args.self.now (g.B.Bus.history c.args.bus.now) c.args.tags.now)
-          (g.B.Bus.history c.args.bus.now) c.args.tags.now (g.B.Bus.history c.write_below.new.bus) c.write_below.new.tags (climbed.0 ++ wrote.0) s) (sym stop)
-          (makes_wrote g.T.Tagger.data_tag_of g.T.Tagger.node_tag_of c.args.self.now (g.B.Bus.history c.args.bus.now) (g.B.Bus.history c.parent_present.new.bus) (g.B.Bus.history c.write_below.new.bus) c.args.tags.now c.parent_present.new.tags c.write_below.new.tags
-          climbed.0 wrote.0 (Some NoMemory) climbed.2 wrote.2),
+      rw stop
+          (makes_wrote g.T.Tagger.data_tag_of g.T.Tagger.node_tag_of c.args.self.now climbed.2 wrote.2),
     )
 
 pub write_back-returns-clause-makes : goal.write_back-returns-clause-makes
@@ -546,8 +489,7 @@ write_back-returns-clause-makes g t c =
     let wrote = c.in_ok-write_below.ensures.makes in (
       climbed.0 ++ wrote.0,
       g.met.B.Bus.moved_on c.args.bus.now c.parent_present.new.bus c.write_below.new.bus climbed.0 wrote.0 climbed.1 wrote.1,
-      makes_wrote g.T.Tagger.data_tag_of g.T.Tagger.node_tag_of c.args.self.now (g.B.Bus.history c.args.bus.now) (g.B.Bus.history c.parent_present.new.bus) (g.B.Bus.history c.write_below.new.bus) c.args.tags.now c.parent_present.new.tags c.write_below.new.tags
-          climbed.0 wrote.0 None climbed.2 wrote.2,
+      makes_wrote g.T.Tagger.data_tag_of g.T.Tagger.node_tag_of c.args.self.now climbed.2 wrote.2,
     )
 
 pub make_room-returns-in_err-write_back-clause-makes : goal.make_room-returns-in_err-write_back-clause-makes
@@ -556,8 +498,7 @@ make_room-returns-in_err-write_back-clause-makes g t c =
     let wrote = c.in_err-write_back.ensures.makes in (
       wrote.0,
       wrote.1,
-      subst (λ (s : Option MemStop). Makes (tags_of g.T.Tagger.data_tag_of g.T.Tagger.node_tag_of c.args.tags.now) (λ used. HoldsTree (tags_of g.T.Tagger.data_tag_of g.T.Tagger.node_tag_of) c.args.self.now (g.B.Bus.history c.args.bus.now) c.args.tags.now)
-          (g.B.Bus.history c.args.bus.now) c.args.tags.now (g.B.Bus.history c.write_back.new.bus) c.write_back.new.tags wrote.0 s) (sym stop)
+      rw stop
           (wrote.2),
     )
 
@@ -569,10 +510,8 @@ present-returns-in_err-make_room-clause-makes g t c =
     let room = c.in_err-make_room.ensures.makes in (
       room.0,
       room.1,
-      subst (λ (s : Option MemStop). Makes (tags_of g.T.Tagger.data_tag_of g.T.Tagger.node_tag_of c.args.tags.now) (λ used. HoldsTree (tags_of g.T.Tagger.data_tag_of g.T.Tagger.node_tag_of) c.args.self.now (g.B.Bus.history c.args.bus.now) c.args.tags.now)
-          (g.B.Bus.history c.args.bus.now) c.args.tags.now (g.B.Bus.history c.make_room.new.bus) c.make_room.new.tags room.0 s) (sym stop)
-          (makes_after g.T.Tagger.data_tag_of g.T.Tagger.node_tag_of c.args.level c.args.self.now (tree_of c.self.inside.root c.touch.new.self) (g.B.Bus.history c.args.bus.now) (g.B.Bus.history c.make_room.new.bus) c.args.tags.now c.make_room.new.tags room.0 (Some c.in_err-make_room.field-0.0) touched
-          (room.2)),
+      rw stop
+          (makes_after g.T.Tagger.data_tag_of g.T.Tagger.node_tag_of touched (room.2)),
     )
 
 pub present-returns-in_err-parent_present-clause-makes : goal.present-returns-in_err-parent_present-clause-makes
@@ -584,13 +523,9 @@ present-returns-in_err-parent_present-clause-makes g t c =
     let climbed = c.in_err-parent_present.ensures.makes in (
       room.0 ++ climbed.0,
       g.met.B.Bus.moved_on c.args.bus.now c.make_room.new.bus c.parent_present.new.bus room.0 climbed.0 room.1 climbed.1,
-      subst (λ (s : Option MemStop). Makes (tags_of g.T.Tagger.data_tag_of g.T.Tagger.node_tag_of c.args.tags.now) (λ used. HoldsTree (tags_of g.T.Tagger.data_tag_of g.T.Tagger.node_tag_of) c.args.self.now (g.B.Bus.history c.args.bus.now) c.args.tags.now)
-          (g.B.Bus.history c.args.bus.now) c.args.tags.now (g.B.Bus.history c.parent_present.new.bus) c.parent_present.new.tags (room.0 ++ climbed.0) s) (sym stop)
-          (makes_after g.T.Tagger.data_tag_of g.T.Tagger.node_tag_of c.args.level c.args.self.now (tree_of c.self.inside.root c.touch.new.self) (g.B.Bus.history c.args.bus.now) (g.B.Bus.history c.parent_present.new.bus) c.args.tags.now c.parent_present.new.tags (room.0 ++ climbed.0) (Some c.in_err-parent_present.field-0.0) touched
-          (makes_climbed g.T.Tagger.data_tag_of g.T.Tagger.node_tag_of c.args.level (tree_of c.self.inside.root c.touch.new.self) c.make_room.new.self (g.B.Bus.history c.args.bus.now) (g.B.Bus.history c.make_room.new.bus) (g.B.Bus.history c.parent_present.new.bus) c.args.tags.now c.make_room.new.tags c.parent_present.new.tags
-          room.0 climbed.0 (Some c.in_err-parent_present.field-0.0) c.in_ok-make_room.ensures.climbs
-          room.2
-          climbed.2)),
+      rw stop
+          (makes_after g.T.Tagger.data_tag_of g.T.Tagger.node_tag_of touched
+          (makes_climbed g.T.Tagger.data_tag_of g.T.Tagger.node_tag_of c.in_ok-make_room.ensures.climbs room.2 climbed.2)),
     )
 
 pub present-returns-clause-makes : goal.present-returns-clause-makes
@@ -603,14 +538,9 @@ present-returns-clause-makes g t c =
       room.0 ++ (climbed.0 ++ read.0),
       g.met.B.Bus.moved_on c.args.bus.now c.make_room.new.bus c.read_in.new.bus room.0 (climbed.0 ++ read.0) room.1
           (g.met.B.Bus.moved_on c.make_room.new.bus c.parent_present.new.bus c.read_in.new.bus climbed.0 read.0 climbed.1 read.1),
-      makes_after g.T.Tagger.data_tag_of g.T.Tagger.node_tag_of c.args.level c.args.self.now (tree_of c.self.inside.root c.touch.new.self) (g.B.Bus.history c.args.bus.now) (g.B.Bus.history c.read_in.new.bus) c.args.tags.now c.read_in.new.tags (room.0 ++ (climbed.0 ++ read.0)) (result_err c.read_in.result) touched
-          (makes_climbed g.T.Tagger.data_tag_of g.T.Tagger.node_tag_of c.args.level (tree_of c.self.inside.root c.touch.new.self) c.make_room.new.self (g.B.Bus.history c.args.bus.now) (g.B.Bus.history c.make_room.new.bus) (g.B.Bus.history c.read_in.new.bus) c.args.tags.now c.make_room.new.tags c.read_in.new.tags
-          room.0 (climbed.0 ++ read.0) (result_err c.read_in.result) c.in_ok-make_room.ensures.climbs
-          room.2
-          (makes_climbed g.T.Tagger.data_tag_of g.T.Tagger.node_tag_of (c.args.level + 1) c.make_room.new.self c.parent_present.new.self (g.B.Bus.history c.make_room.new.bus) (g.B.Bus.history c.parent_present.new.bus) (g.B.Bus.history c.read_in.new.bus) c.make_room.new.tags c.parent_present.new.tags c.read_in.new.tags
-          climbed.0 read.0 (result_err c.read_in.result) c.in_ok-parent_present.ensures.climbs
-          climbed.2
-          read.2)),
+      makes_after g.T.Tagger.data_tag_of g.T.Tagger.node_tag_of touched
+          (makes_climbed g.T.Tagger.data_tag_of g.T.Tagger.node_tag_of c.in_ok-make_room.ensures.climbs room.2
+          (makes_climbed g.T.Tagger.data_tag_of g.T.Tagger.node_tag_of c.in_ok-parent_present.ensures.climbs climbed.2 read.2)),
     )
 
 pub make_room-returns-clause-makes : goal.make_room-returns-clause-makes

@@ -21,8 +21,7 @@ returns-in_err-nodes-clause-makes g c =
     let stop : want_of c.from_residual.result ≡ Some NoMemory = search rules in (
       [],
       g.met.B.Bus.unmoved c.args.bus.now,
-      subst (λ (s : Option MemStop). Makes (tags_of g.T.Tagger.data_tag_of g.T.Tagger.node_tag_of c.args.tags.now) (λ used. Unit {0})
-          (g.B.Bus.history c.args.bus.now) c.args.tags.now (g.B.Bus.history c.args.bus.now) c.args.tags.now [] s) (sym stop)
+      rw stop
           (makes_refused (tags_of g.T.Tagger.data_tag_of g.T.Tagger.node_tag_of c.args.tags.now) (λ used. Unit {0}) (g.B.Bus.history c.args.bus.now) c.args.tags.now),
     )
 

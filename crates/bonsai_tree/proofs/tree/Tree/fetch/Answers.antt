@@ -34,7 +34,7 @@ own_node g c = page_node c.args.self.now.geometry c.args.page c.requires.page
 -- the whole call
 whole : (g : Over) (c : goal.After-read_kept g) → Climbs (tags_of g.T.Tagger.data_tag_of g.T.Tagger.node_tag_of) 0 c.args.self.now (g.B.Bus.history c.args.bus.now) c.args.tags.now c.parent_present.new.self (g.B.Bus.history c.read_kept.new.bus) c.read_kept.new.tags (result_err c.read_kept.result)
 whole g c =
-    fetched g.T.Tagger.data_tag_of g.T.Tagger.node_tag_of c.args.self.now c.parent_present.new.self c.args.page c.kept_tag-tag.result (g.B.Bus.history c.args.bus.now) (g.B.Bus.history c.parent_present.new.bus) (g.B.Bus.history c.read_kept.new.bus) c.args.tags.now c.parent_present.new.tags c.read_kept.new.tags c.read_kept.result (own_node g c) c.in_ok-parent_present.ensures.climbs c.kept_tag-tag.ensures c.read_kept.ensures.read
+    fetched g.T.Tagger.data_tag_of g.T.Tagger.node_tag_of (own_node g c) c.in_ok-parent_present.ensures.climbs c.kept_tag-tag.ensures c.read_kept.ensures.read
 
 pub returns-in_err-parent_present-clause-accepted : goal.returns-in_err-parent_present-clause-accepted
 returns-in_err-parent_present-clause-accepted g c = λ made_at bytes tag quiet is.
@@ -42,19 +42,19 @@ returns-in_err-parent_present-clause-accepted g c = λ made_at bytes tag quiet i
 
 pub returns-clause-block : goal.returns-clause-block
 returns-clause-block g c =
-    fetched_block g.T.Tagger.data_tag_of g.T.Tagger.node_tag_of c.args.self.now c.parent_present.new.self c.args.page c.kept_tag-tag.result (g.B.Bus.history c.args.bus.now) (g.B.Bus.history c.parent_present.new.bus) (g.B.Bus.history c.read_kept.new.bus) c.args.tags.now c.parent_present.new.tags c.read_kept.new.tags c.read_kept.result (own_node g c) c.in_ok-parent_present.ensures.climbs c.kept_tag-tag.ensures c.read_kept.ensures.read
+    fetched_block g.T.Tagger.data_tag_of g.T.Tagger.node_tag_of (own_node g c) c.in_ok-parent_present.ensures.climbs c.kept_tag-tag.ensures c.read_kept.ensures.read
 
 pub returns-clause-pages : goal.returns-clause-pages
 returns-clause-pages g c =
-    fetched_pages g.T.Tagger.data_tag_of g.T.Tagger.node_tag_of c.args.self.now c.parent_present.new.self c.args.page c.kept_tag-tag.result (g.B.Bus.history c.args.bus.now) (g.B.Bus.history c.parent_present.new.bus) (g.B.Bus.history c.read_kept.new.bus) c.args.tags.now c.parent_present.new.tags c.read_kept.new.tags c.read_kept.result (own_node g c) c.in_ok-parent_present.ensures.climbs c.kept_tag-tag.ensures c.read_kept.ensures.read
+    fetched_pages g.T.Tagger.data_tag_of g.T.Tagger.node_tag_of (own_node g c) c.in_ok-parent_present.ensures.climbs c.kept_tag-tag.ensures c.read_kept.ensures.read
 
 pub returns-clause-accepted : goal.returns-clause-accepted
 returns-clause-accepted g c =
-    fetched_accepted g.T.Tagger.data_tag_of g.T.Tagger.node_tag_of c.args.self.now c.parent_present.new.self c.args.page c.kept_tag-tag.result (g.B.Bus.history c.args.bus.now) (g.B.Bus.history c.parent_present.new.bus) (g.B.Bus.history c.read_kept.new.bus) c.args.tags.now c.parent_present.new.tags c.read_kept.new.tags c.read_kept.result (own_node g c) c.in_ok-parent_present.ensures.climbs c.kept_tag-tag.ensures c.read_kept.ensures.read
+    fetched_accepted g.T.Tagger.data_tag_of g.T.Tagger.node_tag_of (own_node g c) c.in_ok-parent_present.ensures.climbs c.kept_tag-tag.ensures c.read_kept.ensures.read
 
 pub returns-clause-checked : goal.returns-clause-checked
 returns-clause-checked g c =
-    fetched_checked g.T.Tagger.data_tag_of g.T.Tagger.node_tag_of c.args.self.now c.parent_present.new.self c.args.page c.kept_tag-tag.result (g.B.Bus.history c.args.bus.now) (g.B.Bus.history c.parent_present.new.bus) (g.B.Bus.history c.read_kept.new.bus) c.args.tags.now c.parent_present.new.tags c.read_kept.new.tags c.read_kept.result (own_node g c) c.in_ok-parent_present.ensures.climbs c.kept_tag-tag.ensures c.read_kept.ensures.read
+    fetched_checked g.T.Tagger.data_tag_of g.T.Tagger.node_tag_of (own_node g c) c.in_ok-parent_present.ensures.climbs c.kept_tag-tag.ensures c.read_kept.ensures.read
 
 pub returns-clause-parent : goal.returns-clause-parent
 returns-clause-parent g c =
@@ -67,7 +67,7 @@ pub returns-clause-read : goal.returns-clause-read
 returns-clause-read g c =
     let inside : 1 ≤ c.parent_present.new.self.geometry.levels = omega (arith, ap (λ (k : GeometryView). k.levels) c.in_ok-parent_present.ensures.climbs.geometry, c.in_ok-parent_present.ensures.some) in
     λ holds quiet.
-    ok_of c.read_kept.result (λ going. fetched_read g.T.Tagger.data_tag_of g.T.Tagger.node_tag_of c.args.self.now c.parent_present.new.self c.args.page c.kept_tag-tag.result (g.B.Bus.history c.args.bus.now) (g.B.Bus.history c.parent_present.new.bus) (g.B.Bus.history c.read_kept.new.bus) c.args.tags.now c.parent_present.new.tags c.read_kept.new.tags c.read_kept.result (own_node g c) c.in_ok-parent_present.ensures.climbs c.kept_tag-tag.ensures c.read_kept.ensures.read holds quiet going
+    ok_of c.read_kept.result (λ going. fetched_read g.T.Tagger.data_tag_of g.T.Tagger.node_tag_of (own_node g c) c.in_ok-parent_present.ensures.climbs c.kept_tag-tag.ensures c.read_kept.ensures.read holds quiet going
     (latest_cached c.parent_present.new.self 1 (c.args.page / arity c.args.self.now.geometry) c.in_ok-parent_present.ensures.nodes (omega arith) inside
     (c.in_ok-parent_present.ensures.latest c.in_ok-parent_present.ensures.some)))
 
@@ -85,27 +85,19 @@ returns-in_err-parent_present-clause-hit g c = λ held.
     ap (λ (history : BusHistory). history.accesses) (c.in_err-parent_present.ensures.hit held).0 in
     omega (arith, same)
 
-pub returns-in_err-parent_present-clause-hit_made : goal.returns-in_err-parent_present-clause-hit_made
-returns-in_err-parent_present-clause-hit_made g c = λ held.
-    ap (λ (engine : TagEngineView g.row.T.Denot). engine.made) (c.in_err-parent_present.ensures.hit held).1
-
 pub returns-clause-hit : goal.returns-clause-hit
 returns-clause-hit g c = λ held.
     let same : (g.B.Bus.history c.parent_present.new.bus).accesses ≡ (g.B.Bus.history c.args.bus.now).accesses =
     ap (λ (history : BusHistory). history.accesses) (c.in_ok-parent_present.ensures.hit held).0 in
     omega (arith, same, c.read_kept.ensures.read.most)
 
-pub returns-clause-hit_made : goal.returns-clause-hit_made
-returns-clause-hit_made g c = λ held.
-    c.read_kept.ensures.read.made ∙ ap (λ (engine : TagEngineView g.row.T.Denot). engine.made) (c.in_ok-parent_present.ensures.hit held).1
-
 -- nodes over the whole call
 nodes_back : (g : Over) (c : goal.After-read_kept g) → WritesUp (EndsQuietly (tags_of g.T.Tagger.data_tag_of g.T.Tagger.node_tag_of) c.args.self.now (g.B.Bus.history c.args.bus.now) c.args.tags.now c.read_kept.new.tags)
     1 NoNode c.args.self.now (g.B.Bus.history c.args.bus.now) c.args.tags.now.made c.parent_present.new.self (g.B.Bus.history c.read_kept.new.bus) c.read_kept.new.tags.made (result_err c.read_kept.result)
 nodes_back g c =
-    up_climbed g.T.Tagger.data_tag_of g.T.Tagger.node_tag_of 1 1 NoNode c.args.self.now c.parent_present.new.self c.parent_present.new.self (g.B.Bus.history c.args.bus.now) (g.B.Bus.history c.parent_present.new.bus) (g.B.Bus.history c.read_kept.new.bus) c.args.tags.now c.parent_present.new.tags c.read_kept.new.tags (result_err c.read_kept.result)
+    up_climbed g.T.Tagger.data_tag_of g.T.Tagger.node_tag_of
     c.in_ok-parent_present.ensures.climbs c.read_kept.ensures.read.moves c.in_ok-parent_present.ensures.back
-    (up_same _ 1 NoNode c.parent_present.new.self c.parent_present.new.self (g.B.Bus.history c.parent_present.new.bus) (g.B.Bus.history c.read_kept.new.bus) c.parent_present.new.tags.made c.read_kept.new.tags.made (result_err c.read_kept.result) c.read_kept.ensures.read.moves.reads c.read_kept.ensures.read.made (λ level index. refl))
+    (up_same c.read_kept.ensures.read.moves.reads c.read_kept.ensures.read.made (λ level index. refl))
 
 pub kept_tag-tag-requires-clause-node : goal.kept_tag-tag-requires-clause-node
 kept_tag-tag-requires-clause-node g c =
@@ -123,15 +115,15 @@ read_kept-requires-clause-node g c =
 
 pub returns-clause-by_tag : goal.returns-clause-by_tag
 returns-clause-by_tag g c =
-    fetched_by_tag g.T.Tagger.data_tag_of g.T.Tagger.node_tag_of c.args.self.now c.parent_present.new.self c.args.page c.kept_tag-tag.result (g.B.Bus.history c.args.bus.now) (g.B.Bus.history c.parent_present.new.bus) (g.B.Bus.history c.read_kept.new.bus) c.args.tags.now c.parent_present.new.tags c.read_kept.new.tags c.read_kept.result (own_node g c) c.in_ok-parent_present.ensures.climbs c.kept_tag-tag.ensures c.read_kept.ensures.read
+    fetched_by_tag g.T.Tagger.data_tag_of g.T.Tagger.node_tag_of (own_node g c) c.in_ok-parent_present.ensures.climbs c.kept_tag-tag.ensures c.read_kept.ensures.read
 
 pub returns-clause-alone : goal.returns-clause-alone
 returns-clause-alone g c =
-    fetched_alone g.T.Tagger.data_tag_of g.T.Tagger.node_tag_of c.args.self.now c.parent_present.new.self c.args.page c.kept_tag-tag.result (g.B.Bus.history c.args.bus.now) (g.B.Bus.history c.parent_present.new.bus) (g.B.Bus.history c.read_kept.new.bus) c.args.tags.now c.parent_present.new.tags c.read_kept.new.tags c.read_kept.result (own_node g c) c.in_ok-parent_present.ensures.climbs c.kept_tag-tag.ensures c.read_kept.ensures.read
+    fetched_alone g.T.Tagger.data_tag_of g.T.Tagger.node_tag_of (own_node g c) c.in_ok-parent_present.ensures.climbs c.kept_tag-tag.ensures c.read_kept.ensures.read
 
 pub returns-clause-block_once : goal.returns-clause-block_once
 returns-clause-block_once g c =
-    fetched_once g.T.Tagger.data_tag_of g.T.Tagger.node_tag_of c.args.self.now c.parent_present.new.self c.args.page c.kept_tag-tag.result (g.B.Bus.history c.args.bus.now) (g.B.Bus.history c.parent_present.new.bus) (g.B.Bus.history c.read_kept.new.bus) c.args.tags.now c.parent_present.new.tags c.read_kept.new.tags c.read_kept.result (own_node g c) c.in_ok-parent_present.ensures.climbs c.kept_tag-tag.ensures c.read_kept.ensures.read
+    fetched_once g.T.Tagger.data_tag_of g.T.Tagger.node_tag_of (own_node g c) c.in_ok-parent_present.ensures.climbs c.kept_tag-tag.ensures c.read_kept.ensures.read
 
 pub returns-in_err-parent_present-clause-block_once : goal.returns-in_err-parent_present-clause-block_once
 returns-in_err-parent_present-clause-block_once g c = omega (arith, c.in_err-parent_present.ensures.climbs.reads 0 c.args.page (omega arith))
@@ -145,8 +137,7 @@ returns-in_err-parent_present-clause-makes g c =
     let climbed = c.in_err-parent_present.ensures.makes in (
       climbed.0,
       climbed.1,
-      subst (λ (s : Option MemStop). Makes (tags_of g.T.Tagger.data_tag_of g.T.Tagger.node_tag_of c.args.tags.now) (λ used. HoldsTree (tags_of g.T.Tagger.data_tag_of g.T.Tagger.node_tag_of) c.args.self.now (g.B.Bus.history c.args.bus.now) c.args.tags.now)
-          (g.B.Bus.history c.args.bus.now) c.args.tags.now (g.B.Bus.history c.parent_present.new.bus) c.parent_present.new.tags climbed.0 s) (sym stop) climbed.2,
+      rw stop climbed.2,
     )
 
 pub returns-clause-makes : goal.returns-clause-makes
@@ -155,10 +146,8 @@ returns-clause-makes g c =
     let read = c.read_kept.ensures.makes in (
       climbed.0 ++ read.0,
       g.met.B.Bus.moved_on c.args.bus.now c.parent_present.new.bus c.read_kept.new.bus climbed.0 read.0 climbed.1 read.1,
-      makes_climbed g.T.Tagger.data_tag_of g.T.Tagger.node_tag_of (0 + 1) c.args.self.now c.parent_present.new.self (g.B.Bus.history c.args.bus.now) (g.B.Bus.history c.parent_present.new.bus) (g.B.Bus.history c.read_kept.new.bus) c.args.tags.now c.parent_present.new.tags c.read_kept.new.tags
-          climbed.0 read.0 (result_err c.read_kept.result) c.in_ok-parent_present.ensures.climbs climbed.2
-          (makes_read g.T.Tagger.data_tag_of g.T.Tagger.node_tag_of c.parent_present.new.self 0 c.args.page c.kept_tag-tag.result (g.B.Bus.history c.parent_present.new.bus) (g.B.Bus.history c.read_kept.new.bus) c.parent_present.new.tags c.read_kept.new.tags
-          read.0 (result_err c.read_kept.result) (subst (λ (k : GeometryView). IsNode k 0 c.args.page) (sym c.in_ok-parent_present.ensures.climbs.geometry) (own_node g c)) (c.kept_tag-tag.ensures c.parent_present.new.tags.made) read.2),
+      makes_climbed g.T.Tagger.data_tag_of g.T.Tagger.node_tag_of c.in_ok-parent_present.ensures.climbs climbed.2
+          (makes_read g.T.Tagger.data_tag_of g.T.Tagger.node_tag_of c.parent_present.new.self 0 c.args.page (subst (λ (k : GeometryView). IsNode k 0 c.args.page) (sym c.in_ok-parent_present.ensures.climbs.geometry) (own_node g c)) (c.kept_tag-tag.ensures c.parent_present.new.tags.made) read.2),
     )
 
 -- the call as a whole
@@ -167,8 +156,7 @@ returns-in_err-parent_present-clause-called g c =
     let why = c.in_err-parent_present.field-0.0 in
     let stop : result_err c.from_residual.result ≡ Some why = search rules in
     let climbs = c.in_err-parent_present.ensures.climbs in
-    subst (λ (s : Option MemStop). TreeCall (tags_of g.T.Tagger.data_tag_of g.T.Tagger.node_tag_of) (IsFetchPlace c.args.self.now.geometry c.args.page) c.args.self.now (g.B.Bus.history c.args.bus.now) c.args.tags.now c.parent_present.new.self (g.B.Bus.history c.parent_present.new.bus) c.parent_present.new.tags s) (sym stop)
-    (tree_called g.T.Tagger.data_tag_of g.T.Tagger.node_tag_of (IsFetchPlace c.args.self.now.geometry c.args.page) (0 + 1) c.args.self.now c.parent_present.new.self (g.B.Bus.history c.args.bus.now) (g.B.Bus.history c.parent_present.new.bus) c.args.tags.now c.parent_present.new.tags (Some why)
+    rw stop (tree_called g.T.Tagger.data_tag_of g.T.Tagger.node_tag_of
     climbs c.in_err-parent_present.ensures.nodes c.in_err-parent_present.ensures.back.back
     (omega (arith, c.in_err-parent_present.ensures.once, path_more c.args.self.now.geometry.levels))
     (omega (arith, c.in_err-parent_present.ensures.few, path_more c.args.self.now.geometry.levels))
@@ -181,23 +169,20 @@ goes_out : (g : Over) (c : goal.After-read_kept g) → HoldsTree (tags_of g.T.Ta
 goes_out g c holds quiet =
     let climbs = c.in_ok-parent_present.ensures.climbs in
     let still = was_none c.parent_present.new.tags.evidence c.read_kept.new.tags.evidence c.read_kept.ensures.read.moves.evidence quiet in
-    out_on c.args.self.now c.parent_present.new.self c.parent_present.new.self (g.B.Bus.history c.args.bus.now) (g.B.Bus.history c.parent_present.new.bus) (g.B.Bus.history c.read_kept.new.bus)
-    c.args.tags.now.made c.parent_present.new.tags.made climbs.geometry climbs.moves.reads c.read_kept.ensures.read.moves.reads
+    out_on climbs.geometry climbs.moves.reads c.read_kept.ensures.read.moves.reads
     (unmade_before c.args.tags.now.made c.parent_present.new.tags.made climbs.moves.more climbs.moves.made) (c.in_ok-parent_present.ensures.out_for holds still)
-    (out_kept c.parent_present.new.self c.parent_present.new.self (g.B.Bus.history c.parent_present.new.bus) (g.B.Bus.history c.read_kept.new.bus) c.parent_present.new.tags.made (λ level index held. held))
+    (out_kept (λ level index held. held))
 
 pub returns-clause-called : goal.returns-clause-called
 returns-clause-called g c =
     let read = c.read_kept.ensures.read in
-    tree_called g.T.Tagger.data_tag_of g.T.Tagger.node_tag_of (IsFetchPlace c.args.self.now.geometry c.args.page) 0 c.args.self.now c.parent_present.new.self (g.B.Bus.history c.args.bus.now) (g.B.Bus.history c.read_kept.new.bus) c.args.tags.now c.read_kept.new.tags (result_err c.read_kept.result)
+    tree_called g.T.Tagger.data_tag_of g.T.Tagger.node_tag_of
     (whole g c) c.in_ok-parent_present.ensures.nodes (nodes_back g c).back
     (omega (arith, c.in_ok-parent_present.ensures.once, path_more c.args.self.now.geometry.levels, read.most))
     (omega (arith, c.in_ok-parent_present.ensures.few, path_more c.args.self.now.geometry.levels, ap length read.made))
     (λ place is. inl (read.tampered place (stop_is c.read_kept.result (Tampered place) is)).0)
-    (fetched_found g.T.Tagger.data_tag_of g.T.Tagger.node_tag_of c.args.self.now c.parent_present.new.self c.args.page c.kept_tag-tag.result (g.B.Bus.history c.args.bus.now) (g.B.Bus.history c.parent_present.new.bus) (g.B.Bus.history c.read_kept.new.bus) c.args.tags.now c.parent_present.new.tags c.read_kept.new.tags c.read_kept.result (own_node g c) c.in_ok-parent_present.ensures.climbs c.kept_tag-tag.ensures read)
-    (λ holds quiet going. goes_out g c holds quiet)
-    (λ going. had_still _ 1 c.args.self.now c.parent_present.new.self c.parent_present.new.self (g.B.Bus.history c.args.bus.now) (g.B.Bus.history c.parent_present.new.bus) (g.B.Bus.history c.read_kept.new.bus)
-    (nodes_wider _ _ 1 c.args.self.now c.parent_present.new.self (g.B.Bus.history c.args.bus.now) (g.B.Bus.history c.parent_present.new.bus)
-    (λ level index high. climb_page c.args.self.now.geometry c.args.self.now.geometry (since c.args.tags.now.made c.parent_present.new.tags.made) (since c.args.tags.now.made c.read_kept.new.tags.made) refl
+    (fetched_found g.T.Tagger.data_tag_of g.T.Tagger.node_tag_of (own_node g c) c.in_ok-parent_present.ensures.climbs c.kept_tag-tag.ensures read)
+    (λ holds quiet going. goes_out g c holds quiet) (λ going. had_still (nodes_wider _ _
+    (λ level index high. climb_page (since c.args.tags.now.made c.parent_present.new.tags.made) (since c.args.tags.now.made c.read_kept.new.tags.made) refl
     (λ message listed. subst (λ (made : List Message). Contains (since c.args.tags.now.made made) message) (sym read.made) listed)
     (IsFetchPlace c.args.self.now.geometry c.args.page) c.args.page (inl refl) level index) c.in_ok-parent_present.ensures.had.had) (λ level set. refl) (λ level index high. read.alone level index (λ same. absurd (omega (arith, high, same.0)))))

@@ -16,7 +16,7 @@ returns-clause-orders c =
     c.parent-above.ensures.parent ∙ ap (λ (k : GeometryView). parent k c.args.level c.args.index) (c.geometry-geometry.ensures ∙ ap (λ (v : TreeView). v.geometry) c.self.view_is) in
     let level_is : above.0 ≡ c.args.level + 1 = ap (λ (node : ℕ × ℕ). node.0) is in
     changed_same tree (tree_of c.self.inside.root c.change.new.self) above.0 (are.each above.0 (omega (arith, level_is)) (omega (arith, level_is, c.requires.below)))
-    (others_as tree c.self.inside.root c.self.inside.nodes c.change.new.self c.self.view_is above.0 c.change.ensures.others) above.1 c.put_tag.new.block
+    (others_as c.self.inside.root c.self.inside.nodes c.change.new.self c.self.view_is above.0 c.change.ensures.others) above.1 c.put_tag.new.block
     (subst (λ (node : ℕ × ℕ). IsLatestNode tree.caches node.0 node.1) (sym is) c.requires.parent)
     (subst (λ (v : TreeView). level_cache c.change.new.self.caches above.0 ≡ with_changed (level_cache v.caches above.0) above.1 c.put_tag.new.block) c.self.view_is
     c.change.ensures.after)

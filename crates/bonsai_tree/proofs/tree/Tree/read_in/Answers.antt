@@ -24,26 +24,21 @@ pub returns-in_err-block-clause-climbs : goal.returns-in_err-block-clause-climbs
 returns-in_err-block-clause-climbs g c =
     let why = c.in_err-block.field-0.0 in
     let stop : result_err c.from_residual.result ≡ Some why = search rules in
-    subst (λ (s : Option MemStop). Climbs (tags_of g.T.Tagger.data_tag_of g.T.Tagger.node_tag_of) c.args.level c.args.self.now
-    (g.B.Bus.history c.args.bus.now) c.args.tags.now c.args.self.now (g.B.Bus.history c.read_kept.new.bus) c.read_kept.new.tags s) (sym stop)
-    (climbs_read g.T.Tagger.data_tag_of g.T.Tagger.node_tag_of c.args.self.now c.args.level c.args.index c.kept_tag-tag.result
-    (g.B.Bus.history c.args.bus.now) (g.B.Bus.history c.read_kept.new.bus) c.args.tags.now c.read_kept.new.tags (Err why) c.requires.node
+    rw stop (climbs_read g.T.Tagger.data_tag_of g.T.Tagger.node_tag_of c.args.self.now c.requires.node
     (c.kept_tag-tag.ensures c.args.tags.now.made) c.in_err-block.ensures.read)
 
 pub returns-clause-climbs : goal.returns-clause-climbs
 returns-clause-climbs g c =
     let are : AreNodeCaches c.args.self.now.geometry c.args.self.now.caches =
     subst (λ (v : TreeView). AreNodeCaches v.geometry v.caches) c.self.view_is c.self.invariant in
-    climbs_put g.T.Tagger.data_tag_of g.T.Tagger.node_tag_of c.args.self.now c.args.level c.args.index c.kept_tag-tag.result
-    (g.B.Bus.history c.args.bus.now) (g.B.Bus.history c.read_kept.new.bus) c.args.tags.now c.read_kept.new.tags (Ok c.in_ok-block.block) c.requires.node
+    climbs_put g.T.Tagger.data_tag_of g.T.Tagger.node_tag_of c.args.self.now c.requires.node
     (c.kept_tag-tag.ensures c.args.tags.now.made) c.in_ok-block.ensures.read
     (tree_of c.self.inside.root c.put.new.self) c.in_ok-block.block refl
-    (geometry_as c.args.self.now c.self.inside.root c.self.inside.nodes c.put.new.self c.self.view_is c.put.ensures.geometry)
-    (root_as c.args.self.now c.self.inside.root c.self.inside.nodes c.put.new.self c.self.view_is) c.put.ensures.nodes
-    (others_as c.args.self.now c.self.inside.root c.self.inside.nodes c.put.new.self c.self.view_is c.args.level c.put.ensures.others)
-    (ap (λ o. option_map copy_of o) c.requires.absent)
-    (ap (λ o. option_map copy_of o) c.put.ensures.put)
-    (same_as c.args.self.now c.self.inside.root c.self.inside.nodes c.put.new.self c.self.view_is c.args.level c.args.index c.put.ensures.same)
+    (geometry_as c.self.inside.root c.self.inside.nodes c.put.new.self c.self.view_is c.put.ensures.geometry)
+    (root_as c.self.inside.root c.self.inside.nodes c.put.new.self c.self.view_is) c.put.ensures.nodes
+    (others_as c.self.inside.root c.self.inside.nodes c.put.new.self c.self.view_is c.args.level c.put.ensures.others)
+    (ap (λ o. option_map copy_of o) c.requires.absent) (ap (λ o. option_map copy_of o) c.put.ensures.put)
+    (same_as c.self.inside.root c.self.inside.nodes c.put.new.self c.self.view_is c.args.level c.args.index c.put.ensures.same)
     (λ below. latest_cached c.args.self.now (c.args.level + 1) (c.args.index / arity c.args.self.now.geometry) are (omega arith) (omega arith) (c.requires.parent below))
     c.in_ok-block.ensures.read.block
 
@@ -51,9 +46,7 @@ returns-clause-climbs g c =
 came_in : (g : Over) (c : goal.After-put g) → HoldsTree (tags_of g.T.Tagger.data_tag_of g.T.Tagger.node_tag_of) c.args.self.now (g.B.Bus.history c.args.bus.now) c.args.tags.now →
     c.read_kept.new.tags.evidence ≡ None → NodeCame c.args.tags.now.made c.args.level c.args.index (g.B.Bus.history c.args.bus.now) (g.B.Bus.history c.read_kept.new.bus)
 came_in g c holds quiet =
-    c.in_ok-block.ensures.read.came
-    (kept_node g.T.Tagger.data_tag_of g.T.Tagger.node_tag_of c.args.self.now c.args.level c.args.index c.kept_tag-tag.result
-    (g.B.Bus.history c.args.bus.now) (g.B.Bus.history c.read_kept.new.bus) c.args.tags.now c.read_kept.new.tags (Ok c.in_ok-block.block) c.requires.node
+    c.in_ok-block.ensures.read.came (kept_node g.T.Tagger.data_tag_of g.T.Tagger.node_tag_of c.args.self.now c.requires.node
     (c.kept_tag-tag.ensures c.args.tags.now.made) c.in_ok-block.ensures.read holds
     (was_none c.args.tags.now.evidence c.read_kept.new.tags.evidence c.in_ok-block.ensures.read.moves.evidence quiet))
     (λ (e : None ≡ Some NoMemory). cc)
@@ -62,24 +55,20 @@ pub returns-in_err-block-clause-back : goal.returns-in_err-block-clause-back
 returns-in_err-block-clause-back g c =
     let why = c.in_err-block.field-0.0 in
     let stop : result_err c.from_residual.result ≡ Some why = search rules in
-    subst (λ (s : Option MemStop). WritesUp (EndsQuietly (tags_of g.T.Tagger.data_tag_of g.T.Tagger.node_tag_of) c.args.self.now (g.B.Bus.history c.args.bus.now) c.args.tags.now c.read_kept.new.tags) c.args.level NoNode c.args.self.now (g.B.Bus.history c.args.bus.now) c.args.tags.now.made c.args.self.now (g.B.Bus.history c.read_kept.new.bus) c.read_kept.new.tags.made s) (sym stop)
-    (up_same _ c.args.level NoNode c.args.self.now c.args.self.now (g.B.Bus.history c.args.bus.now) (g.B.Bus.history c.read_kept.new.bus) c.args.tags.now.made c.read_kept.new.tags.made (Some why) c.in_err-block.ensures.read.moves.reads c.in_err-block.ensures.read.made (λ level index. refl))
+    rw stop (up_same c.in_err-block.ensures.read.moves.reads c.in_err-block.ensures.read.made (λ level index. refl))
 
 pub returns-clause-back : goal.returns-clause-back
 returns-clause-back g c =
-    up_put _ c.args.level NoNode c.args.level c.args.index c.in_ok-block.block c.args.self.now (tree_of c.self.inside.root c.put.new.self) (g.B.Bus.history c.args.bus.now) (g.B.Bus.history c.read_kept.new.bus) c.args.tags.now.made c.read_kept.new.tags.made None
+    up_put c.args.level c.args.index c.in_ok-block.block
     c.in_ok-block.ensures.read.moves.reads c.in_ok-block.ensures.read.made (ap (λ o. option_map copy_of o) c.requires.absent) (ap (λ o. option_map copy_of o) c.put.ensures.put)
-    (same_as c.args.self.now c.self.inside.root c.self.inside.nodes c.put.new.self c.self.view_is c.args.level c.args.index c.put.ensures.same)
+    (same_as c.self.inside.root c.self.inside.nodes c.put.new.self c.self.view_is c.args.level c.args.index c.put.ensures.same)
     (λ calm. came_in g c calm.0 calm.1)
-
-pub returns-clause-came : goal.returns-clause-came
-returns-clause-came g c = came_in g c
 
 pub returns-clause-kept : goal.returns-clause-kept
 returns-clause-kept g c =
     kept_at c.args.level c.args.index c.args.self.now (tree_of c.self.inside.root c.put.new.self) (record { block = c.in_ok-block.block; changed = false })
     (ap (λ o. option_map copy_of o) c.put.ensures.put)
-    (same_as c.args.self.now c.self.inside.root c.self.inside.nodes c.put.new.self c.self.view_is c.args.level c.args.index c.put.ensures.same)
+    (same_as c.self.inside.root c.self.inside.nodes c.put.new.self c.self.view_is c.args.level c.args.index c.put.ensures.same)
 
 pub returns-clause-had : goal.returns-clause-had
 returns-clause-had g c =
@@ -88,7 +77,7 @@ returns-clause-had g c =
     record {
       added =
           put_here c.args.self.now (tree_of c.self.inside.root c.put.new.self) c.args.level (are.each c.args.level c.requires.above c.requires.node.0)
-          (others_as c.args.self.now c.self.inside.root c.self.inside.nodes c.put.new.self c.self.view_is c.args.level c.put.ensures.others) c.args.index
+          (others_as c.self.inside.root c.self.inside.nodes c.put.new.self c.self.view_is c.args.level c.put.ensures.others) c.args.index
           c.in_ok-block.block c.requires.absent
           (subst (λ (v : TreeView). level_cache c.put.new.self.caches c.args.level ≡ with_new (level_cache v.caches c.args.level) c.args.index c.in_ok-block.block) c.self.view_is
           c.put.ensures.after);
@@ -103,10 +92,8 @@ returns-in_err-block-clause-makes g c =
     let read = c.in_err-block.ensures.makes in (
       read.0,
       read.1,
-      subst (λ (s : Option MemStop). Makes (tags_of g.T.Tagger.data_tag_of g.T.Tagger.node_tag_of c.args.tags.now) (λ used. HoldsTree (tags_of g.T.Tagger.data_tag_of g.T.Tagger.node_tag_of) c.args.self.now (g.B.Bus.history c.args.bus.now) c.args.tags.now)
-          (g.B.Bus.history c.args.bus.now) c.args.tags.now (g.B.Bus.history c.read_kept.new.bus) c.read_kept.new.tags read.0 s) (sym stop)
-          (makes_read g.T.Tagger.data_tag_of g.T.Tagger.node_tag_of c.args.self.now c.args.level c.args.index c.kept_tag-tag.result (g.B.Bus.history c.args.bus.now) (g.B.Bus.history c.read_kept.new.bus) c.args.tags.now c.read_kept.new.tags
-          read.0 (Some why) c.requires.node (c.kept_tag-tag.ensures c.args.tags.now.made) read.2),
+      rw stop
+          (makes_read g.T.Tagger.data_tag_of g.T.Tagger.node_tag_of c.args.self.now c.args.level c.args.index c.requires.node (c.kept_tag-tag.ensures c.args.tags.now.made) read.2),
     )
 
 pub returns-clause-makes : goal.returns-clause-makes
@@ -114,6 +101,8 @@ returns-clause-makes g c =
     let read = c.in_ok-block.ensures.makes in (
       read.0,
       read.1,
-      makes_read g.T.Tagger.data_tag_of g.T.Tagger.node_tag_of c.args.self.now c.args.level c.args.index c.kept_tag-tag.result (g.B.Bus.history c.args.bus.now) (g.B.Bus.history c.read_kept.new.bus) c.args.tags.now c.read_kept.new.tags
-          read.0 None c.requires.node (c.kept_tag-tag.ensures c.args.tags.now.made) read.2,
+      makes_read g.T.Tagger.data_tag_of g.T.Tagger.node_tag_of c.args.self.now c.args.level c.args.index c.requires.node (c.kept_tag-tag.ensures c.args.tags.now.made) read.2,
     )
+
+pub returns-clause-came : goal.returns-clause-came
+returns-clause-came g c = came_in g c

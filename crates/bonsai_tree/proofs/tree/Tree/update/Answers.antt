@@ -33,14 +33,14 @@ use Rattle.bonsai_tree.proofs.tree.Tree.update.Goals as goal
 -- the whole call, where the block was written
 whole : (g : Over) (c : goal.In_ok-write_below g) → Climbs (tags_of g.T.Tagger.data_tag_of g.T.Tagger.node_tag_of) 0 c.args.self.now (g.B.Bus.history c.args.bus.now) c.args.tags.now c.write_below.new.self (g.B.Bus.history c.write_below.new.bus) c.write_below.new.tags None
 whole g c =
-    climbs_on g.T.Tagger.data_tag_of g.T.Tagger.node_tag_of 0 c.args.self.now c.parent_present.new.self c.write_below.new.self (g.B.Bus.history c.args.bus.now) (g.B.Bus.history c.parent_present.new.bus) (g.B.Bus.history c.write_below.new.bus) c.args.tags.now c.parent_present.new.tags c.write_below.new.tags None
-    (climbs_up g.T.Tagger.data_tag_of g.T.Tagger.node_tag_of 0 1 c.args.self.now c.parent_present.new.self (g.B.Bus.history c.args.bus.now) (g.B.Bus.history c.parent_present.new.bus) c.args.tags.now c.parent_present.new.tags None (omega arith) c.in_ok-parent_present.ensures.climbs) c.in_ok-write_below.ensures.climbs
+    climbs_on g.T.Tagger.data_tag_of g.T.Tagger.node_tag_of
+    (climbs_up g.T.Tagger.data_tag_of g.T.Tagger.node_tag_of (omega arith) c.in_ok-parent_present.ensures.climbs) c.in_ok-write_below.ensures.climbs
 
 -- and where there was no memory for that
 whole_refused : (g : Over) (c : goal.After-from_residual-in_err-write_below g) → Climbs (tags_of g.T.Tagger.data_tag_of g.T.Tagger.node_tag_of) 0 c.args.self.now (g.B.Bus.history c.args.bus.now) c.args.tags.now c.write_below.new.self (g.B.Bus.history c.write_below.new.bus) c.write_below.new.tags (Some NoMemory)
 whole_refused g c =
-    climbs_on g.T.Tagger.data_tag_of g.T.Tagger.node_tag_of 0 c.args.self.now c.parent_present.new.self c.write_below.new.self (g.B.Bus.history c.args.bus.now) (g.B.Bus.history c.parent_present.new.bus) (g.B.Bus.history c.write_below.new.bus) c.args.tags.now c.parent_present.new.tags c.write_below.new.tags (Some NoMemory)
-    (climbs_up g.T.Tagger.data_tag_of g.T.Tagger.node_tag_of 0 1 c.args.self.now c.parent_present.new.self (g.B.Bus.history c.args.bus.now) (g.B.Bus.history c.parent_present.new.bus) c.args.tags.now c.parent_present.new.tags None (omega arith) c.in_ok-parent_present.ensures.climbs) c.in_err-write_below.ensures.climbs
+    climbs_on g.T.Tagger.data_tag_of g.T.Tagger.node_tag_of
+    (climbs_up g.T.Tagger.data_tag_of g.T.Tagger.node_tag_of (omega arith) c.in_ok-parent_present.ensures.climbs) c.in_err-write_below.ensures.climbs
 
 pub returns-in_err-parent_present-clause-refused : goal.returns-in_err-parent_present-clause-refused
 returns-in_err-parent_present-clause-refused g c =
@@ -64,10 +64,6 @@ returns-in_err-write_below-clause-others g c = λ other apart. c.in_err-write_be
 pub returns-in_err-write_below-clause-beside : goal.returns-in_err-write_below-clause-beside
 returns-in_err-write_below-clause-beside g c = λ other apart. c.in_err-write_below.ensures.beside other apart ∙ c.in_ok-parent_present.ensures.climbs.written 0 other (omega arith)
 
-pub returns-in_err-write_below-clause-geometry : goal.returns-in_err-write_below-clause-geometry
-returns-in_err-write_below-clause-geometry g c =
-    (whole_refused g c).geometry
-
 pub returns-in_err-write_below-clause-refused : goal.returns-in_err-write_below-clause-refused
 returns-in_err-write_below-clause-refused g c =
     on_err c.from_residual-in_err-write_below.result (elim c.in_err-write_below.ensures.refused [
@@ -81,14 +77,10 @@ returns-clause-others g c = λ other apart. c.in_ok-write_below.ensures.others o
 pub returns-clause-beside : goal.returns-clause-beside
 returns-clause-beside g c = λ other apart. c.in_ok-write_below.ensures.beside other apart ∙ c.in_ok-parent_present.ensures.climbs.written 0 other (omega arith)
 
-pub returns-clause-geometry : goal.returns-clause-geometry
-returns-clause-geometry g c =
-    (whole g c).geometry
-
 pub returns-clause-read : goal.returns-clause-read
 returns-clause-read g c =
     let inside : 1 ≤ c.parent_present.new.self.geometry.levels = omega (arith, ap (λ (k : GeometryView). k.levels) c.in_ok-parent_present.ensures.climbs.geometry, c.in_ok-parent_present.ensures.some) in
-    updated_read g.T.Tagger.data_tag_of g.T.Tagger.node_tag_of c.args.self.now c.parent_present.new.self c.args.page (g.B.Bus.history c.args.bus.now) (g.B.Bus.history c.parent_present.new.bus) (g.B.Bus.history c.write_below.new.bus) c.args.tags.now c.parent_present.new.tags c.write_below.new.tags c.in_ok-parent_present.ensures.climbs c.in_ok-write_below.ensures.climbs.moves.reads c.in_ok-write_below.ensures.quiet
+    updated_read g.T.Tagger.data_tag_of g.T.Tagger.node_tag_of c.write_below.new.tags c.in_ok-parent_present.ensures.climbs c.in_ok-write_below.ensures.climbs.moves.reads c.in_ok-write_below.ensures.quiet
     (latest_cached c.parent_present.new.self 1 (c.args.page / arity c.args.self.now.geometry) c.in_ok-parent_present.ensures.nodes (omega arith) inside
     (c.in_ok-parent_present.ensures.latest c.in_ok-parent_present.ensures.some))
 
@@ -96,12 +88,6 @@ pub returns-clause-parent : goal.returns-clause-parent
 returns-clause-parent g c =
     subst (λ (k : GeometryView). IsMarked c.write_below.new.self 1 (c.args.page / arity k)) c.in_ok-parent_present.ensures.climbs.geometry
     c.in_ok-write_below.ensures.marked
-
-pub returns-in_err-write_below-clause-pages : goal.returns-in_err-write_below-clause-pages
-returns-in_err-write_below-clause-pages g c = λ place is.
-    let stop : result_err c.from_residual-in_err-write_below.result ≡ Some NoMemory = search rules in
-    let other : result_err c.from_residual-in_err-write_below.result ≡ Some (Tampered place) = stop_of_err c.from_residual-in_err-write_below.result (Tampered place) is in
-    absurd (cc)
 
 -- which messages of pages' blocks were made
 pub returns-in_err-parent_present-clause-one_at_most : goal.returns-in_err-parent_present-clause-one_at_most
@@ -120,19 +106,12 @@ returns-clause-one_page g c =
     blocks_after 0 c.args.page c.args.block.now c.args.tags.now.made c.parent_present.new.tags.made c.write_below.new.tags.made
     (c.in_ok-parent_present.ensures.climbs.blocks 0 (omega arith)) c.in_ok-write_below.ensures.made
 
-pub returns-clause-one_at_most : goal.returns-clause-one_at_most
-returns-clause-one_at_most g c = inr (returns-clause-one_page g c)
-
 -- where the node above it has a copy
 pub returns-in_err-parent_present-clause-hit : goal.returns-in_err-parent_present-clause-hit
 returns-in_err-parent_present-clause-hit g c = λ held.
     let same : (g.B.Bus.history c.parent_present.new.bus).accesses ≡ (g.B.Bus.history c.args.bus.now).accesses =
     ap (λ (history : BusHistory). history.accesses) (c.in_err-parent_present.ensures.hit held).0 in
     omega (arith, same)
-
-pub returns-in_err-parent_present-clause-hit_made : goal.returns-in_err-parent_present-clause-hit_made
-returns-in_err-parent_present-clause-hit_made g c = λ held.
-    inl (ap (λ (engine : TagEngineView g.row.T.Denot). engine.made) (c.in_err-parent_present.ensures.hit held).1)
 
 pub returns-in_err-write_below-clause-hit : goal.returns-in_err-write_below-clause-hit
 returns-in_err-write_below-clause-hit g c = λ held.
@@ -181,8 +160,7 @@ returns-in_err-parent_present-clause-makes g c =
     let climbed = c.in_err-parent_present.ensures.makes in (
       climbed.0,
       climbed.1,
-      subst (λ (s : Option MemStop). Makes (tags_of g.T.Tagger.data_tag_of g.T.Tagger.node_tag_of c.args.tags.now) (λ used. HoldsTree (tags_of g.T.Tagger.data_tag_of g.T.Tagger.node_tag_of) c.args.self.now (g.B.Bus.history c.args.bus.now) c.args.tags.now)
-          (g.B.Bus.history c.args.bus.now) c.args.tags.now (g.B.Bus.history c.parent_present.new.bus) c.parent_present.new.tags climbed.0 s) (sym stop) climbed.2,
+      rw stop climbed.2,
     )
 
 pub returns-in_err-write_below-clause-makes : goal.returns-in_err-write_below-clause-makes
@@ -192,10 +170,8 @@ returns-in_err-write_below-clause-makes g c =
     let wrote = c.in_err-write_below.ensures.makes in (
       climbed.0 ++ wrote.0,
       g.met.B.Bus.moved_on c.args.bus.now c.parent_present.new.bus c.write_below.new.bus climbed.0 wrote.0 climbed.1 wrote.1,
-      subst (λ (s : Option MemStop). Makes (tags_of g.T.Tagger.data_tag_of g.T.Tagger.node_tag_of c.args.tags.now) (λ used. HoldsTree (tags_of g.T.Tagger.data_tag_of g.T.Tagger.node_tag_of) c.args.self.now (g.B.Bus.history c.args.bus.now) c.args.tags.now)
-          (g.B.Bus.history c.args.bus.now) c.args.tags.now (g.B.Bus.history c.write_below.new.bus) c.write_below.new.tags (climbed.0 ++ wrote.0) s) (sym stop)
-          (makes_wrote g.T.Tagger.data_tag_of g.T.Tagger.node_tag_of c.args.self.now (g.B.Bus.history c.args.bus.now) (g.B.Bus.history c.parent_present.new.bus) (g.B.Bus.history c.write_below.new.bus) c.args.tags.now c.parent_present.new.tags c.write_below.new.tags
-          climbed.0 wrote.0 (Some NoMemory) climbed.2 wrote.2),
+      rw stop
+          (makes_wrote g.T.Tagger.data_tag_of g.T.Tagger.node_tag_of c.args.self.now climbed.2 wrote.2),
     )
 
 pub returns-clause-makes : goal.returns-clause-makes
@@ -204,8 +180,7 @@ returns-clause-makes g c =
     let wrote = c.in_ok-write_below.ensures.makes in (
       climbed.0 ++ wrote.0,
       g.met.B.Bus.moved_on c.args.bus.now c.parent_present.new.bus c.write_below.new.bus climbed.0 wrote.0 climbed.1 wrote.1,
-      makes_wrote g.T.Tagger.data_tag_of g.T.Tagger.node_tag_of c.args.self.now (g.B.Bus.history c.args.bus.now) (g.B.Bus.history c.parent_present.new.bus) (g.B.Bus.history c.write_below.new.bus) c.args.tags.now c.parent_present.new.tags c.write_below.new.tags
-          climbed.0 wrote.0 None climbed.2 wrote.2,
+      makes_wrote g.T.Tagger.data_tag_of g.T.Tagger.node_tag_of c.args.self.now climbed.2 wrote.2,
     )
 
 -- the call as a whole
@@ -214,8 +189,7 @@ returns-in_err-parent_present-clause-called g c =
     let why = c.in_err-parent_present.field-0.0 in
     let stop : result_err c.from_residual.result ≡ Some why = search rules in
     let climbs = c.in_err-parent_present.ensures.climbs in
-    subst (λ (s : Option MemStop). TreeCall (tags_of g.T.Tagger.data_tag_of g.T.Tagger.node_tag_of) (IsNodeFrom c.args.self.now.geometry 1) c.args.self.now (g.B.Bus.history c.args.bus.now) c.args.tags.now c.parent_present.new.self (g.B.Bus.history c.parent_present.new.bus) c.parent_present.new.tags s) (sym stop)
-    (tree_called g.T.Tagger.data_tag_of g.T.Tagger.node_tag_of (IsNodeFrom c.args.self.now.geometry 1) (0 + 1) c.args.self.now c.parent_present.new.self (g.B.Bus.history c.args.bus.now) (g.B.Bus.history c.parent_present.new.bus) c.args.tags.now c.parent_present.new.tags (Some why)
+    rw stop (tree_called g.T.Tagger.data_tag_of g.T.Tagger.node_tag_of
     climbs c.in_err-parent_present.ensures.nodes c.in_err-parent_present.ensures.back.back
     (omega (arith, c.in_err-parent_present.ensures.once, path_more c.args.self.now.geometry.levels))
     (omega (arith, c.in_err-parent_present.ensures.few, path_more c.args.self.now.geometry.levels))
@@ -225,10 +199,9 @@ pub returns-in_err-write_below-clause-called : goal.returns-in_err-write_below-c
 returns-in_err-write_below-clause-called g c =
     let stop : result_err c.from_residual-in_err-write_below.result ≡ Some NoMemory = search rules in
     let nodes =
-    up_climbed g.T.Tagger.data_tag_of g.T.Tagger.node_tag_of 1 1 (IsBlockOf 0 c.args.page c.args.block.now) c.args.self.now c.parent_present.new.self c.write_below.new.self (g.B.Bus.history c.args.bus.now) (g.B.Bus.history c.parent_present.new.bus) (g.B.Bus.history c.write_below.new.bus) c.args.tags.now c.parent_present.new.tags c.write_below.new.tags (Some NoMemory)
+    up_climbed g.T.Tagger.data_tag_of g.T.Tagger.node_tag_of
     c.in_ok-parent_present.ensures.climbs c.in_err-write_below.ensures.climbs.moves c.in_ok-parent_present.ensures.back c.in_err-write_below.ensures.back in
-    subst (λ (s : Option MemStop). TreeCall (tags_of g.T.Tagger.data_tag_of g.T.Tagger.node_tag_of) (IsNodeFrom c.args.self.now.geometry 1) c.args.self.now (g.B.Bus.history c.args.bus.now) c.args.tags.now c.write_below.new.self (g.B.Bus.history c.write_below.new.bus) c.write_below.new.tags s) (sym stop)
-    (tree_called g.T.Tagger.data_tag_of g.T.Tagger.node_tag_of (IsNodeFrom c.args.self.now.geometry 1) 0 c.args.self.now c.write_below.new.self (g.B.Bus.history c.args.bus.now) (g.B.Bus.history c.write_below.new.bus) c.args.tags.now c.write_below.new.tags (Some NoMemory)
+    rw stop (tree_called g.T.Tagger.data_tag_of g.T.Tagger.node_tag_of
     (whole_refused g c) (c.in_err-write_below.ensures.climbs.nodes c.in_ok-parent_present.ensures.nodes) nodes.back
     (omega (arith, c.in_ok-parent_present.ensures.once, c.in_err-write_below.ensures.once, path_more c.args.self.now.geometry.levels))
     (omega (arith, c.in_ok-parent_present.ensures.few, c.in_err-write_below.ensures.few, path_more c.args.self.now.geometry.levels))
@@ -241,10 +214,9 @@ goes_out : (g : Over) (c : goal.In_ok-write_below g) → HoldsTree (tags_of g.T.
 goes_out g c holds quiet =
     let climbs = c.in_ok-parent_present.ensures.climbs in
     let still = was_none c.parent_present.new.tags.evidence c.write_below.new.tags.evidence c.in_ok-write_below.ensures.climbs.moves.evidence quiet in
-    out_on c.args.self.now c.parent_present.new.self c.write_below.new.self (g.B.Bus.history c.args.bus.now) (g.B.Bus.history c.parent_present.new.bus) (g.B.Bus.history c.write_below.new.bus)
-    c.args.tags.now.made c.parent_present.new.tags.made climbs.geometry climbs.moves.reads c.in_ok-write_below.ensures.climbs.moves.reads
+    out_on climbs.geometry climbs.moves.reads c.in_ok-write_below.ensures.climbs.moves.reads
     (unmade_before c.args.tags.now.made c.parent_present.new.tags.made climbs.moves.more climbs.moves.made) (c.in_ok-parent_present.ensures.out_for holds still)
-    (out_kept c.parent_present.new.self c.write_below.new.self (g.B.Bus.history c.parent_present.new.bus) (g.B.Bus.history c.write_below.new.bus) c.parent_present.new.tags.made c.in_ok-write_below.ensures.kept)
+    (out_kept c.in_ok-write_below.ensures.kept)
 
 pub returns-clause-called : goal.returns-clause-called
 returns-clause-called g c =
@@ -253,19 +225,19 @@ returns-clause-called g c =
     let parent = c.in_ok-parent_present.ensures.climbs.moves in
     let own : List Message = Node 0 c.args.page c.args.block.now ∷ [] in
     let nodes =
-    up_climbed g.T.Tagger.data_tag_of g.T.Tagger.node_tag_of 1 1 (IsBlockOf 0 c.args.page c.args.block.now) c.args.self.now c.parent_present.new.self c.write_below.new.self (g.B.Bus.history c.args.bus.now) (g.B.Bus.history c.parent_present.new.bus) (g.B.Bus.history c.write_below.new.bus) c.args.tags.now c.parent_present.new.tags c.write_below.new.tags None
+    up_climbed g.T.Tagger.data_tag_of g.T.Tagger.node_tag_of
     c.in_ok-parent_present.ensures.climbs c.in_ok-write_below.ensures.climbs.moves c.in_ok-parent_present.ensures.back c.in_ok-write_below.ensures.back in
-    tree_called g.T.Tagger.data_tag_of g.T.Tagger.node_tag_of (IsNodeFrom c.args.self.now.geometry 1) 0 c.args.self.now c.write_below.new.self (g.B.Bus.history c.args.bus.now) (g.B.Bus.history c.write_below.new.bus) c.args.tags.now c.write_below.new.tags None
+    tree_called g.T.Tagger.data_tag_of g.T.Tagger.node_tag_of
     (whole g c) (c.in_ok-write_below.ensures.climbs.nodes c.in_ok-parent_present.ensures.nodes) nodes.back
     (omega (arith, c.in_ok-parent_present.ensures.once, c.in_ok-write_below.ensures.once, path_more c.args.self.now.geometry.levels))
     (omega (arith, c.in_ok-parent_present.ensures.few, c.in_ok-write_below.ensures.few, path_more c.args.self.now.geometry.levels))
     (λ place is. absurd (cc)) (λ quiet evidence is. c.in_ok-parent_present.ensures.climbs.found quiet evidence (sym c.in_ok-write_below.ensures.quiet ∙ is))
-    (λ holds quiet going. goes_out g c holds quiet)
-    (λ going. had_still _ 1 c.args.self.now c.parent_present.new.self c.write_below.new.self (g.B.Bus.history c.args.bus.now) (g.B.Bus.history c.parent_present.new.bus) (g.B.Bus.history c.write_below.new.bus)
-    (nodes_wider _ _ 1 c.args.self.now c.parent_present.new.self (g.B.Bus.history c.args.bus.now) (g.B.Bus.history c.parent_present.new.bus)
-    (λ level index high may. inr (climb_made geometry geometry (since made c.parent_present.new.tags.made) (since made c.write_below.new.tags.made) refl
-    (since_before made c.parent_present.new.tags.made c.write_below.new.tags.made parent.more own parent.made c.in_ok-write_below.ensures.made)
-    0 c.args.page c.args.block.now
-    (since_after made c.parent_present.new.tags.made c.write_below.new.tags.made parent.more own parent.made c.in_ok-write_below.ensures.made
+    (λ holds quiet going. goes_out g c holds quiet) (λ going. had_still (nodes_wider _ _
+    (λ level index high may. inr (climb_made (since made c.parent_present.new.tags.made) (since made c.write_below.new.tags.made) refl
+    (since_before made parent.more own parent.made c.in_ok-write_below.ensures.made) 0 c.args.page c.args.block.now
+    (since_after made parent.more own parent.made c.in_ok-write_below.ensures.made
     (Node 0 c.args.page c.args.block.now) (Contains-push [] (Node 0 c.args.page c.args.block.now))) level index high may))
     c.in_ok-parent_present.ensures.had.had) c.in_ok-write_below.ensures.orders (λ level index high. ap (λ (f : Place → ℕ). f (node_place level index)) c.in_ok-write_below.ensures.reads))
+
+pub returns-clause-one_at_most : goal.returns-clause-one_at_most
+returns-clause-one_at_most g c = inr (returns-clause-one_page g c)

@@ -28,55 +28,51 @@ use Rattle.bonsai_tree.proofs.tree.Tree.write_below.Goals as goal
 pub returns-in_err-reserve-clause-climbs : goal.returns-in_err-reserve-clause-climbs
 returns-in_err-reserve-clause-climbs g c =
     let stop : want_of c.from_residual.result ≡ Some NoMemory = search rules in
-    subst (λ (s : Option MemStop). Climbs (tags_of g.T.Tagger.data_tag_of g.T.Tagger.node_tag_of) c.args.level c.args.self.now
-    (g.B.Bus.history c.args.bus.now) c.args.tags.now c.args.self.now (g.B.Bus.history c.args.bus.now) c.reserve.new.self s) (sym stop)
+    rw stop
     (subst (λ (e : TagEngineView g.row.T.Denot). Climbs (tags_of g.T.Tagger.data_tag_of g.T.Tagger.node_tag_of) c.args.level c.args.self.now
     (g.B.Bus.history c.args.bus.now) c.args.tags.now c.args.self.now (g.B.Bus.history c.args.bus.now) e (Some NoMemory)) (sym c.in_err-reserve.ensures.refused)
-    (climbs_refused g.T.Tagger.data_tag_of g.T.Tagger.node_tag_of c.args.level c.args.self.now (g.B.Bus.history c.args.bus.now) c.args.tags.now))
+    (climbs_refused g.T.Tagger.data_tag_of g.T.Tagger.node_tag_of))
 
 pub returns-in_err-tag-clause-climbs : goal.returns-in_err-tag-clause-climbs
 returns-in_err-tag-clause-climbs g c =
     let write : NodeWritten (tags_of g.T.Tagger.data_tag_of g.T.Tagger.node_tag_of) c.args.level c.args.index c.args.block.now (g.B.Bus.history c.args.bus.now) c.reserve.new.self (g.B.Bus.history c.write_node.new.bus) c.write_node.new.tags =
     record { made = c.in_err-tag.ensures.made; moves = c.in_err-tag.ensures.moves; lines = c.in_err-tag.ensures.lines; others = c.in_err-tag.ensures.others; honest = c.in_err-tag.ensures.honest } in
     let stop : want_of c.from_residual-in_err-tag.result ≡ Some NoMemory = search rules in
-    subst (λ (s : Option MemStop). Climbs (tags_of g.T.Tagger.data_tag_of g.T.Tagger.node_tag_of) c.args.level c.args.self.now
-    (g.B.Bus.history c.args.bus.now) c.args.tags.now c.args.self.now (g.B.Bus.history c.write_node.new.bus) c.write_node.new.tags s) (sym stop)
-    (climbs_wrote g.T.Tagger.data_tag_of g.T.Tagger.node_tag_of c.args.self.now c.args.self.now c.args.level (g.B.Bus.history c.args.bus.now) (g.B.Bus.history c.write_node.new.bus) c.args.tags.now c.write_node.new.tags
-    (Some NoMemory) (inr refl)
-    (writes_taken g.T.Tagger.data_tag_of g.T.Tagger.node_tag_of c.args.self.now.geometry (g.B.Bus.history c.args.bus.now) (g.B.Bus.history c.write_node.new.bus) c.args.tags.now c.reserve.new.self c.write_node.new.tags 1 c.in_ok-reserve.ensures.taken
-    (written_not g.T.Tagger.data_tag_of g.T.Tagger.node_tag_of c.args.level c.args.index c.args.block.now (g.B.Bus.history c.args.bus.now) (g.B.Bus.history c.write_node.new.bus) c.reserve.new.self c.write_node.new.tags write c.args.self.now.geometry c.in_err-tag.ensures.err))
-    (no_rise_one g.T.Tagger.data_tag_of g.T.Tagger.node_tag_of c.args.self.now c.args.self.now c.args.level c.args.index c.args.block.now [] (g.B.Bus.history c.args.bus.now) (g.B.Bus.history c.write_node.new.bus) c.args.tags.now c.reserve.new.self c.write_node.new.tags c.in_ok-reserve.ensures.taken write)
+    rw stop (climbs_wrote g.T.Tagger.data_tag_of g.T.Tagger.node_tag_of (inr refl)
+    (writes_taken g.T.Tagger.data_tag_of g.T.Tagger.node_tag_of c.in_ok-reserve.ensures.taken
+    (written_not g.T.Tagger.data_tag_of g.T.Tagger.node_tag_of write c.args.self.now.geometry c.in_err-tag.ensures.err))
+    (no_rise_one g.T.Tagger.data_tag_of g.T.Tagger.node_tag_of c.args.self.now c.args.self.now [] c.args.tags.now c.in_ok-reserve.ensures.taken write)
     refl refl (λ are. are) (λ other low. refl)
-    (λ other at low. last_apart g.T.Tagger.data_tag_of g.T.Tagger.node_tag_of c.args.self.now c.args.self.now c.args.level c.args.index c.args.block.now [] (g.B.Bus.history c.args.bus.now) (g.B.Bus.history c.write_node.new.bus) c.args.tags.now c.reserve.new.self c.write_node.new.tags c.in_ok-reserve.ensures.taken write other at (λ same. absurd (omega (arith, same.0, low))))
-    (λ other low. blocks_apart g.T.Tagger.data_tag_of g.T.Tagger.node_tag_of c.args.self.now c.args.self.now c.args.level c.args.index c.args.block.now [] (g.B.Bus.history c.args.bus.now) (g.B.Bus.history c.write_node.new.bus) c.args.tags.now c.reserve.new.self c.write_node.new.tags c.in_ok-reserve.ensures.taken write other (λ (same : c.args.level ≡ other). absurd (omega (arith, same, low))))
-    (λ other at low. written_apart g.T.Tagger.data_tag_of g.T.Tagger.node_tag_of c.args.self.now c.args.self.now c.args.level c.args.index c.args.block.now [] (g.B.Bus.history c.args.bus.now) (g.B.Bus.history c.write_node.new.bus) c.args.tags.now c.reserve.new.self c.write_node.new.tags c.in_ok-reserve.ensures.taken write other at (λ same. absurd (omega (arith, same.0, low))))
+    (λ other at low. last_apart g.T.Tagger.data_tag_of g.T.Tagger.node_tag_of c.args.self.now c.args.self.now [] c.args.tags.now c.in_ok-reserve.ensures.taken write other at (λ same. absurd (omega (arith, same.0, low))))
+    (λ other low. blocks_apart g.T.Tagger.data_tag_of g.T.Tagger.node_tag_of c.args.self.now c.args.self.now [] c.args.tags.now c.in_ok-reserve.ensures.taken write other (λ (same : c.args.level ≡ other). absurd (omega (arith, same, low))))
+    (λ other at low. written_apart g.T.Tagger.data_tag_of g.T.Tagger.node_tag_of c.args.self.now c.args.self.now [] c.args.tags.now c.in_ok-reserve.ensures.taken write other at (λ same. absurd (omega (arith, same.0, low))))
     (λ holds remembered. absurd (remembered refl))
-    (put_slots g.T.Tagger.data_tag_of g.T.Tagger.node_tag_of c.args.self.now c.args.self.now c.args.level c.args.index c.args.block.now [] (g.B.Bus.history c.args.bus.now) (g.B.Bus.history c.write_node.new.bus) c.args.tags.now c.reserve.new.self c.write_node.new.tags c.in_ok-reserve.ensures.taken write c.requires.node c.requires.current)
+    (put_slots g.T.Tagger.data_tag_of g.T.Tagger.node_tag_of c.args.self.now c.args.self.now [] c.args.tags.now c.in_ok-reserve.ensures.taken write c.requires.node c.requires.current)
     (λ other at held. held))
 
 pub returns-in_err-tag-clause-refused : goal.returns-in_err-tag-clause-refused
 returns-in_err-tag-clause-refused g c =
     let write : NodeWritten (tags_of g.T.Tagger.data_tag_of g.T.Tagger.node_tag_of) c.args.level c.args.index c.args.block.now (g.B.Bus.history c.args.bus.now) c.reserve.new.self (g.B.Bus.history c.write_node.new.bus) c.write_node.new.tags =
     record { made = c.in_err-tag.ensures.made; moves = c.in_err-tag.ensures.moves; lines = c.in_err-tag.ensures.lines; others = c.in_err-tag.ensures.others; honest = c.in_err-tag.ensures.honest } in
-    on_err c.from_residual-in_err-tag.result (inr (own g.T.Tagger.data_tag_of g.T.Tagger.node_tag_of c.args.level c.args.index c.args.block.now (g.B.Bus.history c.args.bus.now) (g.B.Bus.history c.write_node.new.bus) c.reserve.new.self c.write_node.new.tags write))
+    on_err c.from_residual-in_err-tag.result (inr (own g.T.Tagger.data_tag_of g.T.Tagger.node_tag_of write))
 
 pub returns-in_err-tag-clause-others : goal.returns-in_err-tag-clause-others
 returns-in_err-tag-clause-others g c = λ at differs.
     let write : NodeWritten (tags_of g.T.Tagger.data_tag_of g.T.Tagger.node_tag_of) c.args.level c.args.index c.args.block.now (g.B.Bus.history c.args.bus.now) c.reserve.new.self (g.B.Bus.history c.write_node.new.bus) c.write_node.new.tags =
     record { made = c.in_err-tag.ensures.made; moves = c.in_err-tag.ensures.moves; lines = c.in_err-tag.ensures.lines; others = c.in_err-tag.ensures.others; honest = c.in_err-tag.ensures.honest } in
-    last_apart g.T.Tagger.data_tag_of g.T.Tagger.node_tag_of c.args.self.now c.args.self.now c.args.level c.args.index c.args.block.now [] (g.B.Bus.history c.args.bus.now) (g.B.Bus.history c.write_node.new.bus) c.args.tags.now c.reserve.new.self c.write_node.new.tags c.in_ok-reserve.ensures.taken write c.args.level at (λ same. differs same.1)
+    last_apart g.T.Tagger.data_tag_of g.T.Tagger.node_tag_of c.args.self.now c.args.self.now [] c.args.tags.now c.in_ok-reserve.ensures.taken write c.args.level at (λ same. differs same.1)
 
 pub returns-clause-own : goal.returns-clause-own
 returns-clause-own g c =
     let write : NodeWritten (tags_of g.T.Tagger.data_tag_of g.T.Tagger.node_tag_of) c.args.level c.args.index c.args.block.now (g.B.Bus.history c.args.bus.now) c.reserve.new.self (g.B.Bus.history c.write_node.new.bus) c.write_node.new.tags =
     record { made = c.in_ok-tag.ensures.made; moves = c.in_ok-tag.ensures.moves; lines = c.in_ok-tag.ensures.lines; others = c.in_ok-tag.ensures.others; honest = c.in_ok-tag.ensures.honest } in
-    own g.T.Tagger.data_tag_of g.T.Tagger.node_tag_of c.args.level c.args.index c.args.block.now (g.B.Bus.history c.args.bus.now) (g.B.Bus.history c.write_node.new.bus) c.reserve.new.self c.write_node.new.tags write
+    own g.T.Tagger.data_tag_of g.T.Tagger.node_tag_of write
 
 pub returns-clause-others : goal.returns-clause-others
 returns-clause-others g c = λ at differs.
     let write : NodeWritten (tags_of g.T.Tagger.data_tag_of g.T.Tagger.node_tag_of) c.args.level c.args.index c.args.block.now (g.B.Bus.history c.args.bus.now) c.reserve.new.self (g.B.Bus.history c.write_node.new.bus) c.write_node.new.tags =
     record { made = c.in_ok-tag.ensures.made; moves = c.in_ok-tag.ensures.moves; lines = c.in_ok-tag.ensures.lines; others = c.in_ok-tag.ensures.others; honest = c.in_ok-tag.ensures.honest } in
-    last_apart g.T.Tagger.data_tag_of g.T.Tagger.node_tag_of c.args.self.now c.args.self.now c.args.level c.args.index c.args.block.now [] (g.B.Bus.history c.args.bus.now) (g.B.Bus.history c.write_node.new.bus) c.args.tags.now c.reserve.new.self c.write_node.new.tags c.in_ok-reserve.ensures.taken write c.args.level at (λ same. differs same.1)
+    last_apart g.T.Tagger.data_tag_of g.T.Tagger.node_tag_of c.args.self.now c.args.self.now [] c.args.tags.now c.in_ok-reserve.ensures.taken write c.args.level at (λ same. differs same.1)
 
 -- the tag is one of the tree's layout
 tag_fits : (g : Over) (c : goal.After-keep_tag g) → IsTag c.args.self.now.geometry.layout c.in_ok-tag.tag
@@ -104,45 +100,36 @@ returns-clause-climbs g c =
       put = c.keep_tag.ensures.put found.0 found.1;
       same = λ other at apart. ap (option_map copy_of) (c.keep_tag.ensures.same other at apart);
     } in
-    climbs_wrote g.T.Tagger.data_tag_of g.T.Tagger.node_tag_of c.args.self.now c.keep_tag.new.self c.args.level (g.B.Bus.history c.args.bus.now) (g.B.Bus.history c.write_node.new.bus) c.args.tags.now c.write_node.new.tags
-    None (inl refl)
-    (writes_taken g.T.Tagger.data_tag_of g.T.Tagger.node_tag_of c.args.self.now.geometry (g.B.Bus.history c.args.bus.now) (g.B.Bus.history c.write_node.new.bus) c.args.tags.now c.reserve.new.self c.write_node.new.tags 0 c.in_ok-reserve.ensures.taken
-    (written_once g.T.Tagger.data_tag_of g.T.Tagger.node_tag_of c.args.level c.args.index c.args.block.now (g.B.Bus.history c.args.bus.now) (g.B.Bus.history c.write_node.new.bus) c.reserve.new.self c.write_node.new.tags write c.args.self.now.geometry c.in_ok-tag.ensures.once))
-    (no_rise_one g.T.Tagger.data_tag_of g.T.Tagger.node_tag_of c.args.self.now c.keep_tag.new.self c.args.level c.args.index c.args.block.now c.in_ok-tag.tag (g.B.Bus.history c.args.bus.now) (g.B.Bus.history c.write_node.new.bus) c.args.tags.now c.reserve.new.self c.write_node.new.tags c.in_ok-reserve.ensures.taken write)
+    climbs_wrote g.T.Tagger.data_tag_of g.T.Tagger.node_tag_of (inl refl)
+    (writes_taken g.T.Tagger.data_tag_of g.T.Tagger.node_tag_of c.in_ok-reserve.ensures.taken
+    (written_once g.T.Tagger.data_tag_of g.T.Tagger.node_tag_of write c.args.self.now.geometry c.in_ok-tag.ensures.once))
+    (no_rise_one g.T.Tagger.data_tag_of g.T.Tagger.node_tag_of c.args.self.now c.keep_tag.new.self c.in_ok-tag.tag c.args.tags.now c.in_ok-reserve.ensures.taken write)
     c.keep_tag.ensures.geometry c.keep_tag.ensures.root (λ are. c.keep_tag.ensures.nodes)
     (λ other low. c.keep_tag.ensures.others other (λ (same : other ≡ c.args.level + 1). absurd (omega (arith, same, low))))
-    (λ other at low. last_apart g.T.Tagger.data_tag_of g.T.Tagger.node_tag_of c.args.self.now c.keep_tag.new.self c.args.level c.args.index c.args.block.now c.in_ok-tag.tag (g.B.Bus.history c.args.bus.now) (g.B.Bus.history c.write_node.new.bus) c.args.tags.now c.reserve.new.self c.write_node.new.tags c.in_ok-reserve.ensures.taken write other at (λ same. absurd (omega (arith, same.0, low))))
-    (λ other low. blocks_apart g.T.Tagger.data_tag_of g.T.Tagger.node_tag_of c.args.self.now c.keep_tag.new.self c.args.level c.args.index c.args.block.now c.in_ok-tag.tag (g.B.Bus.history c.args.bus.now) (g.B.Bus.history c.write_node.new.bus) c.args.tags.now c.reserve.new.self c.write_node.new.tags c.in_ok-reserve.ensures.taken write other (λ (same : c.args.level ≡ other). absurd (omega (arith, same, low))))
-    (λ other at low. written_apart g.T.Tagger.data_tag_of g.T.Tagger.node_tag_of c.args.self.now c.keep_tag.new.self c.args.level c.args.index c.args.block.now c.in_ok-tag.tag (g.B.Bus.history c.args.bus.now) (g.B.Bus.history c.write_node.new.bus) c.args.tags.now c.reserve.new.self c.write_node.new.tags c.in_ok-reserve.ensures.taken write other at (λ same. absurd (omega (arith, same.0, low))))
-    (λ holds remembered. put_holds g.T.Tagger.data_tag_of g.T.Tagger.node_tag_of c.args.self.now c.keep_tag.new.self c.args.level c.args.index c.args.block.now c.in_ok-tag.tag (g.B.Bus.history c.args.bus.now) (g.B.Bus.history c.write_node.new.bus) c.args.tags.now c.reserve.new.self c.write_node.new.tags c.in_ok-reserve.ensures.taken write c.in_ok-tag.ensures.once puts c.requires.below c.requires.node
+    (λ other at low. last_apart g.T.Tagger.data_tag_of g.T.Tagger.node_tag_of c.args.self.now c.keep_tag.new.self c.in_ok-tag.tag c.args.tags.now c.in_ok-reserve.ensures.taken write other at (λ same. absurd (omega (arith, same.0, low))))
+    (λ other low. blocks_apart g.T.Tagger.data_tag_of g.T.Tagger.node_tag_of c.args.self.now c.keep_tag.new.self c.in_ok-tag.tag c.args.tags.now c.in_ok-reserve.ensures.taken write other (λ (same : c.args.level ≡ other). absurd (omega (arith, same, low))))
+    (λ other at low. written_apart g.T.Tagger.data_tag_of g.T.Tagger.node_tag_of c.args.self.now c.keep_tag.new.self c.in_ok-tag.tag c.args.tags.now c.in_ok-reserve.ensures.taken write other at (λ same. absurd (omega (arith, same.0, low))))
+    (λ holds remembered. put_holds g.T.Tagger.data_tag_of g.T.Tagger.node_tag_of c.args.self.now c.keep_tag.new.self c.in_ok-tag.tag c.args.tags.now c.in_ok-reserve.ensures.taken write c.in_ok-tag.ensures.once puts c.requires.below c.requires.node
     c.in_ok-tag.ensures.tag.0 (tag_fits g c) (search rules) c.requires.current holds)
-    (put_slots g.T.Tagger.data_tag_of g.T.Tagger.node_tag_of c.args.self.now c.keep_tag.new.self c.args.level c.args.index c.args.block.now c.in_ok-tag.tag (g.B.Bus.history c.args.bus.now) (g.B.Bus.history c.write_node.new.bus) c.args.tags.now c.reserve.new.self c.write_node.new.tags c.in_ok-reserve.ensures.taken write c.requires.node c.requires.current)
-    (puts_held c.args.self.now c.keep_tag.new.self c.args.level c.args.index c.in_ok-tag.tag puts)
-
-pub returns-in_err-reserve-clause-one_at_most : goal.returns-in_err-reserve-clause-one_at_most
-returns-in_err-reserve-clause-one_at_most g c =
-    inl (ap (λ (e : TagEngineView g.row.T.Denot). e.made) c.in_err-reserve.ensures.refused)
+    (put_slots g.T.Tagger.data_tag_of g.T.Tagger.node_tag_of c.args.self.now c.keep_tag.new.self c.in_ok-tag.tag c.args.tags.now c.in_ok-reserve.ensures.taken write c.requires.node c.requires.current)
+    (puts_held puts)
 
 pub returns-in_err-tag-clause-one_at_most : goal.returns-in_err-tag-clause-one_at_most
 returns-in_err-tag-clause-one_at_most g c =
     let write : NodeWritten (tags_of g.T.Tagger.data_tag_of g.T.Tagger.node_tag_of) c.args.level c.args.index c.args.block.now (g.B.Bus.history c.args.bus.now) c.reserve.new.self (g.B.Bus.history c.write_node.new.bus) c.write_node.new.tags =
     record { made = c.in_err-tag.ensures.made; moves = c.in_err-tag.ensures.moves; lines = c.in_err-tag.ensures.lines; others = c.in_err-tag.ensures.others; honest = c.in_err-tag.ensures.honest } in
-    inr (made_one g.T.Tagger.data_tag_of g.T.Tagger.node_tag_of c.args.self.now c.args.self.now c.args.level c.args.index c.args.block.now [] (g.B.Bus.history c.args.bus.now) (g.B.Bus.history c.write_node.new.bus) c.args.tags.now c.reserve.new.self c.write_node.new.tags c.in_ok-reserve.ensures.taken write)
+    inr (made_one g.T.Tagger.data_tag_of g.T.Tagger.node_tag_of c.args.self.now c.args.self.now [] c.args.tags.now c.in_ok-reserve.ensures.taken write)
 
 pub returns-clause-made : goal.returns-clause-made
 returns-clause-made g c =
     let write : NodeWritten (tags_of g.T.Tagger.data_tag_of g.T.Tagger.node_tag_of) c.args.level c.args.index c.args.block.now (g.B.Bus.history c.args.bus.now) c.reserve.new.self (g.B.Bus.history c.write_node.new.bus) c.write_node.new.tags =
     record { made = c.in_ok-tag.ensures.made; moves = c.in_ok-tag.ensures.moves; lines = c.in_ok-tag.ensures.lines; others = c.in_ok-tag.ensures.others; honest = c.in_ok-tag.ensures.honest } in
-    made_one g.T.Tagger.data_tag_of g.T.Tagger.node_tag_of c.args.self.now c.args.self.now c.args.level c.args.index c.args.block.now [] (g.B.Bus.history c.args.bus.now) (g.B.Bus.history c.write_node.new.bus) c.args.tags.now c.reserve.new.self c.write_node.new.tags c.in_ok-reserve.ensures.taken write
-
-pub returns-clause-one_at_most : goal.returns-clause-one_at_most
-returns-clause-one_at_most g c = inr (returns-clause-made g c)
+    made_one g.T.Tagger.data_tag_of g.T.Tagger.node_tag_of c.args.self.now c.args.self.now [] c.args.tags.now c.in_ok-reserve.ensures.taken write
 
 pub returns-in_err-reserve-clause-back : goal.returns-in_err-reserve-clause-back
 returns-in_err-reserve-clause-back g c =
     let stop : want_of c.from_residual.result ≡ Some NoMemory = search rules in
-    subst (λ (s : Option MemStop). WritesUp (EndsQuietly (tags_of g.T.Tagger.data_tag_of g.T.Tagger.node_tag_of) c.args.self.now (g.B.Bus.history c.args.bus.now) c.args.tags.now c.reserve.new.self) (c.args.level + 1) (IsBlockOf c.args.level c.args.index c.args.block.now) c.args.self.now (g.B.Bus.history c.args.bus.now) c.args.tags.now.made c.args.self.now (g.B.Bus.history c.args.bus.now) c.reserve.new.self.made s) (sym stop)
-    (up_same _ (c.args.level + 1) (IsBlockOf c.args.level c.args.index c.args.block.now) c.args.self.now c.args.self.now (g.B.Bus.history c.args.bus.now) (g.B.Bus.history c.args.bus.now) c.args.tags.now.made c.reserve.new.self.made (Some NoMemory)
+    rw stop (up_same
     (λ place. omega arith) (ap (λ (e : TagEngineView g.row.T.Denot). e.made) c.in_err-reserve.ensures.refused) (λ level index. refl))
 
 pub returns-in_err-tag-clause-back : goal.returns-in_err-tag-clause-back
@@ -150,10 +137,8 @@ returns-in_err-tag-clause-back g c =
     let write : NodeWritten (tags_of g.T.Tagger.data_tag_of g.T.Tagger.node_tag_of) c.args.level c.args.index c.args.block.now (g.B.Bus.history c.args.bus.now) c.reserve.new.self (g.B.Bus.history c.write_node.new.bus) c.write_node.new.tags =
     record { made = c.in_err-tag.ensures.made; moves = c.in_err-tag.ensures.moves; lines = c.in_err-tag.ensures.lines; others = c.in_err-tag.ensures.others; honest = c.in_err-tag.ensures.honest } in
     let stop : want_of c.from_residual-in_err-tag.result ≡ Some NoMemory = search rules in
-    subst (λ (s : Option MemStop). WritesUp (EndsQuietly (tags_of g.T.Tagger.data_tag_of g.T.Tagger.node_tag_of) c.args.self.now (g.B.Bus.history c.args.bus.now) c.args.tags.now c.write_node.new.tags) (c.args.level + 1) (IsBlockOf c.args.level c.args.index c.args.block.now) c.args.self.now (g.B.Bus.history c.args.bus.now) c.args.tags.now.made c.args.self.now (g.B.Bus.history c.write_node.new.bus) c.write_node.new.tags.made s) (sym stop)
-    (up_made _ c.args.level c.args.index c.args.block.now c.args.self.now c.args.self.now (g.B.Bus.history c.args.bus.now) (g.B.Bus.history c.write_node.new.bus) c.args.tags.now.made c.write_node.new.tags.made (Some NoMemory)
-    c.in_err-tag.ensures.moves.reads
-    (made_one g.T.Tagger.data_tag_of g.T.Tagger.node_tag_of c.args.self.now c.args.self.now c.args.level c.args.index c.args.block.now [] (g.B.Bus.history c.args.bus.now) (g.B.Bus.history c.write_node.new.bus) c.args.tags.now c.reserve.new.self c.write_node.new.tags c.in_ok-reserve.ensures.taken write) (λ other at apart. refl) (λ other at held. held) (λ marked. marked))
+    rw stop (up_made c.args.level c.args.index c.args.block.now c.in_err-tag.ensures.moves.reads
+    (made_one g.T.Tagger.data_tag_of g.T.Tagger.node_tag_of c.args.self.now c.args.self.now [] c.args.tags.now c.in_ok-reserve.ensures.taken write) (λ other at apart. refl) (λ other at held. held) (λ marked. marked))
 
 pub returns-clause-back : goal.returns-clause-back
 returns-clause-back g c =
@@ -168,8 +153,8 @@ returns-clause-back g c =
       put = c.keep_tag.ensures.put found.0 found.1;
       same = λ other at apart. ap (option_map copy_of) (c.keep_tag.ensures.same other at apart);
     } in
-    up_made _ c.args.level c.args.index c.args.block.now c.args.self.now c.keep_tag.new.self (g.B.Bus.history c.args.bus.now) (g.B.Bus.history c.write_node.new.bus) c.args.tags.now.made c.write_node.new.tags.made None
-    c.in_ok-tag.ensures.moves.reads (returns-clause-made g c) puts.same (puts_held c.args.self.now c.keep_tag.new.self c.args.level c.args.index c.in_ok-tag.tag puts)
+    up_made c.args.level c.args.index c.args.block.now
+    c.in_ok-tag.ensures.moves.reads (returns-clause-made g c) puts.same (puts_held puts)
     (λ was. ap (option_map (λ (copy : CachedNode). copy.changed)) puts.put)
 
 pub returns-clause-marked : goal.returns-clause-marked
@@ -186,18 +171,12 @@ returns-clause-kept g c =
     (record { block = with_tag c.args.self.now.geometry (slot c.args.self.now.geometry c.args.index) c.in_ok-tag.tag found.0.block; changed = true })
     (c.keep_tag.ensures.put found.0 found.1) (λ other at apart. ap (option_map copy_of) (c.keep_tag.ensures.same other at apart))
 
-pub returns-clause-reads : goal.returns-clause-reads
-returns-clause-reads g c = c.in_ok-tag.ensures.once.reads
-
-pub returns-in_err-tag-clause-reads : goal.returns-in_err-tag-clause-reads
-returns-in_err-tag-clause-reads g c = ap (λ (history : BusHistory). history.reads) c.in_err-tag.ensures.err
-
 pub returns-in_err-reserve-clause-makes : goal.returns-in_err-reserve-clause-makes
 returns-in_err-reserve-clause-makes g c =
     let stop : want_of c.from_residual.result ≡ Some NoMemory = search rules in (
       [],
       g.met.B.Bus.unmoved c.args.bus.now,
-      subst (λ (s : Option MemStop). Makes (tags_of g.T.Tagger.data_tag_of g.T.Tagger.node_tag_of c.args.tags.now) (λ used. Unit {0}) (g.B.Bus.history c.args.bus.now) c.args.tags.now (g.B.Bus.history c.args.bus.now) c.reserve.new.self [] s) (sym stop)
+      rw stop
           (subst (λ (e : TagEngineView g.row.T.Denot). Makes (tags_of g.T.Tagger.data_tag_of g.T.Tagger.node_tag_of c.args.tags.now) (λ used. Unit {0}) (g.B.Bus.history c.args.bus.now) c.args.tags.now (g.B.Bus.history c.args.bus.now) e [] (Some NoMemory))
           (sym c.in_err-reserve.ensures.refused) (makes_refused (tags_of g.T.Tagger.data_tag_of g.T.Tagger.node_tag_of c.args.tags.now) (λ used. Unit {0}) (g.B.Bus.history c.args.bus.now) c.args.tags.now)),
     )
@@ -208,9 +187,8 @@ returns-in_err-tag-clause-makes g c =
     let wrote = c.in_err-tag.ensures.makes in (
       [],
       wrote.0,
-      subst (λ (s : Option MemStop). Makes (tags_of g.T.Tagger.data_tag_of g.T.Tagger.node_tag_of c.args.tags.now) (λ used. Unit {0}) (g.B.Bus.history c.args.bus.now) c.args.tags.now (g.B.Bus.history c.write_node.new.bus) c.write_node.new.tags [] s) (sym stop)
-          (makes_taken g.T.Tagger.data_tag_of g.T.Tagger.node_tag_of (λ used. Unit {0}) (g.B.Bus.history c.args.bus.now) (g.B.Bus.history c.write_node.new.bus) c.args.tags.now c.reserve.new.self c.write_node.new.tags
-          [] (Some NoMemory) (Node c.args.level c.args.index c.args.block.now) c.in_ok-reserve.ensures.taken c.in_err-tag.ensures.made wrote.1),
+      rw stop
+          (makes_taken g.T.Tagger.data_tag_of g.T.Tagger.node_tag_of (Node c.args.level c.args.index c.args.block.now) c.in_ok-reserve.ensures.taken c.in_err-tag.ensures.made wrote.1),
     )
 
 pub returns-clause-makes : goal.returns-clause-makes
@@ -219,6 +197,5 @@ returns-clause-makes g c =
     let write : Access = access_of (tags_of g.T.Tagger.data_tag_of g.T.Tagger.node_tag_of c.reserve.new.self) (Node c.args.level c.args.index c.args.block.now) in (
       write ∷ [],
       wrote.0,
-      makes_taken g.T.Tagger.data_tag_of g.T.Tagger.node_tag_of (λ used. Unit {0}) (g.B.Bus.history c.args.bus.now) (g.B.Bus.history c.write_node.new.bus) c.args.tags.now c.reserve.new.self c.write_node.new.tags
-          (write ∷ []) None (Node c.args.level c.args.index c.args.block.now) c.in_ok-reserve.ensures.taken c.in_ok-tag.ensures.made wrote.1,
+      makes_taken g.T.Tagger.data_tag_of g.T.Tagger.node_tag_of (Node c.args.level c.args.index c.args.block.now) c.in_ok-reserve.ensures.taken c.in_ok-tag.ensures.made wrote.1,
     )
