@@ -8,7 +8,7 @@ use Rattle.sec_base.proofs.Lists.{get_last, get_listed, get_front}
 use Rattle.pad_stream.specs.Pads.{NoRepeat, IsBefore, AreRising}
 
 -- an item of a list that is one longer: the last, or one of those before
-get_more : {A : Type 0} (items : List A) (item found : A) (at : ℕ) → slice_get (items ++ item ∷ []) at ≡ Some found →
+pub get_more : {A : Type 0} (items : List A) (item found : A) (at : ℕ) → slice_get (items ++ item ∷ []) at ≡ Some found →
     ((at < length items) × (slice_get items at ≡ Some found)) ⊎ ((at ≡ length items) × (item ≡ found))
 get_more items item found at is =
     let within : at < length (items ++ item ∷ []) = slice_get_within (items ++ item ∷ []) at found is in
