@@ -1,9 +1,8 @@
 -- What a call that had the counters of a page makes of the memory outside, and a write that was counted by them.
-use Rattle.std.proofs.Common.{◌≡◌, ◌≢◌, inl, ℕ, ◌+◌, ◌<◌, ◌≤◌, List, Option, Some, None, Contains, refl, ap, sym, ◌∙◌, subst}
+use Rattle.std.proofs.Common.{◌≡◌, ◌≢◌, inl, ℕ, ◌+◌, ◌<◌, ◌≤◌, List, Option, Some, None, Contains, refl, ap, ◌∙◌}
 use Rattle.sec_base.specs.Count.{Rose}
 use Rattle.sec_base.specs.Evidence.{evidence_place}
 use Rattle.sec_base.specs.Geometry.{GeometryView, page_count, page_of}
-use Rattle.sec_base.specs.declared.counter.Counter.{Counter}
 use Rattle.sec_base.specs.declared.evidence.Evidence.{Evidence}
 use Rattle.sec_base.specs.declared.place.Place.{Place}
 use Rattle.sec_base.specs.declared.stop.MemStop.{MemStop}
@@ -11,10 +10,9 @@ use Rattle.sec_base.specs.declared.stop.MemStop.TheVariants.{Spent, Tampered}
 use Rattle.bus_model.specs.Access.{Access}
 use Rattle.bus_model.specs.BusHistory.{BusHistory}
 use Rattle.tag_engine.specs.TagEngine.{TagEngineView, tags_of}
-use Rattle.checked_bus.specs.Steps.{IsAccounted}
 use Rattle.split_counter.specs.declared.bumped.Bumped.{Bumped}
 use Rattle.split_counter.specs.CounterBlock.{CounterBlockView, after_bump, bumped, counter_of}
-use Rattle.bonsai_tree.specs.Tree.{IsFetchPlace, PathWasRead, TreeView, cached_node}
+use Rattle.bonsai_tree.specs.Tree.{IsFetchPlace, PathWasRead, TreeView}
 use Rattle.bonsai_tree.proofs.Climbs.{read_up_held}
 use Rattle.counter_cache.specs.Counters.{AreCopies, AreHad, CountersView, SameCounters, cached_pages, counter_accesses, counters_in}
 use Rattle.counter_cache.specs.HadCounters.{HadCounters, IsCounted}
@@ -73,9 +71,7 @@ module _ {B T : Type 0} (history : B → BusHistory) (moved : B → List Access 
           fits = λ going.
               fits_after history moved d n old new.bus new.engine counters' step.step.tagger step.step.geometry
               (had.has.holds was_fit (going_not_memory stop going));
-          accounted = λ was.
-              subst (λ (u : List (ℕ × Counter)). IsAccounted (tags_of d n old.engine) u new.engine.made (history new.bus) stop new.engine.evidence) (sym step.used)
-              (had.has.tree.honest was_fit.tree old.pads.used was);
+          accounted = λ was. rw step.used (had.has.tree.honest was_fit.tree old.pads.used was);
           shows = λ quiet. shows_by new.engine.evidence (had.has.tree.shown was_fit.tree quiet);
           nodes = nodes;
         };
@@ -93,15 +89,11 @@ module _ {B T : Type 0} (history : B → BusHistory) (moved : B → List Access 
           unread = had.has.tree.unread was_fit.tree;
         };
         same = had.has.same was_fit;
-        once = subst (λ (l : GeometryView). (history new.bus).accesses ≤ (history old.bus).accesses + counter_accesses l.levels) geometry had.once;
+        once = rw (← geometry) had.once;
         idle = λ cached. ap (λ (h : BusHistory). h.accesses) (had.hit cached).1;
         path = λ none quiet missed. had.path was_fit quiet missed none;
-        found = λ evidence quiet is.
-            subst (λ (l : GeometryView). IsFetchPlace l (page_of line) (evidence_place evidence)) geometry (had.has.tree.found quiet evidence is);
-        tampered = λ place is. (
-          subst (λ (l : GeometryView). IsFetchPlace l (page_of line) place) geometry (had.has.tree.tampered place is),
-          λ quiet. had.has.tree.lied was_fit.tree quiet place is,
-        );
+        found = λ evidence quiet is. rw (← geometry) (had.has.tree.found quiet evidence is);
+        tampered = λ place is. (rw (← geometry) (had.has.tree.tampered place is), λ quiet. had.has.tree.lied was_fit.tree quiet place is);
         unspent = had.has.tree.unspent;
       }
 
@@ -148,9 +140,8 @@ counted_up_by history moved d n outside counters counters' page place limit outc
   came = λ fit quiet. record {
     blocks = λ other cached. inl (counted_pages counters counters' page place limit outcome is before after other cached);
     nodes = λ level index copied.
-        read_up_held counters.tree outside.engine.made level index (history outside.bus) (history outside.bus)
-        (subst (λ (t : TreeView). cached_node t level index ≢ None) is.tree copied);
-    nodes_came = λ memory level index copied. inl (subst (λ (t : TreeView). cached_node t level index ≢ None) is.tree copied, refl);
+        read_up_held counters.tree outside.engine.made level index (history outside.bus) (history outside.bus) (rw is.tree at copied);
+    nodes_came = λ memory level index copied. inl (rw is.tree at copied, refl);
     blocks_came = λ goes other copied. inl (counted_fewer counters counters' page place limit outcome is before after other copied, refl);
   };
   fits = λ fit.

@@ -1,5 +1,5 @@
 -- Entries of lines under one counter, behind those from before; and the counter that comes behind a line's.
-use Rattle.std.proofs.Common.{◌≡◌, ◌≢◌, ◌↔◌, ◌⊎◌, inl, inr, ℕ, zero, suc, ◌+◌, ◌*◌, ◌%◌, ◌<◌, ◌≤◌, Bool, true, false, cond, nat_eq, List, [], ◌∷◌, ◌++◌, length, map, take, Option, Some, None, Contains, unwrap_or, refl, ap, sym, ◌∙◌, subst, arith}
+use Rattle.std.proofs.Common.{◌≡◌, ◌≢◌, ◌↔◌, ◌⊎◌, inl, inr, ℕ, zero, suc, ◌+◌, ◌*◌, ◌%◌, ◌<◌, ◌≤◌, Bool, true, false, cond, nat_eq, List, [], ◌∷◌, ◌++◌, length, map, take, Contains, refl, ap, sym, ◌∙◌, subst, arith}
 use Rattle.std.specs.List.{filter, range_with_len}
 use Rattle.std.proofs.lemmas.Bool.{cases_eq}
 use Rattle.std.proofs.lemmas.Bool.Decides.{Decides-eqb, eqb_tells}
@@ -8,12 +8,11 @@ use Rattle.std.proofs.lemmas.List.Elements.{Contains-push_cases, filter-append}
 use Rattle.std.proofs.lemmas.List.FromFn.{length-range_with_len, get_or-range_with_len}
 use Rattle.sec_base.specs.declared.counter.Counter.{Counter}
 use Rattle.sec_base.specs.Geometry.{page_of}
-use Rattle.sec_base.specs.LastMessage.{last_pair}
 use Rattle.pad_stream.specs.Pads.{IsBefore}
 use Rattle.split_counter.specs.CounterBlock.{last_counter, next_counter}
-use Rattle.page_reencrypt.specs.Contents.{ArePaged, AreWithin, counter_in, line_entries, lines_encrypted, never_written, page_entries, page_lines}
+use Rattle.page_reencrypt.specs.Contents.{ArePaged, AreWithin, counter_in, lines_encrypted, never_written, page_entries, page_lines}
 use Rattle.page_reencrypt.proofs.Consistency.{counter_in-same, counter_in-other}
-use Rattle.page_reencrypt.proofs.RisingPairs.{Contains-skip, last_listed}
+use Rattle.page_reencrypt.proofs.RisingPairs.{Contains-skip}
 
 -- The next counter
 
@@ -65,14 +64,6 @@ next_overflows counter = (
   λ full. ap (λ (c : Counter). c.line) (next_page counter full),
 )
 
--- its page counter is the same or the next
-pub next_page_most : (counter : Counter) → (next_counter counter).page ≤ counter.page + 1
-next_page_most counter =
-    elim (cases_eq counter.line 127) [
-      | inl full ↦ let next : (next_counter counter).page ≡ counter.page + 1 = ap (λ (c : Counter). c.page) (next_page counter full) in omega (arith, next)
-      | inr more ↦ let same : (next_counter counter).page ≡ counter.page = ap (λ (c : Counter). c.page) (next_line counter more) in omega (arith, same)
-    ]
-
 -- within the limit, unless the counter is the last
 pub next_limited : (limit : ℕ) (counter : Counter) → counter.page ≤ limit → counter ≢ last_counter limit → (next_counter counter).page ≤ limit
 next_limited limit counter within going =
@@ -85,16 +76,6 @@ next_limited limit counter within going =
           ]
       | inr more ↦ let same : (next_counter counter).page ≡ counter.page = ap (λ (c : Counter). c.page) (next_line counter more) in omega (arith, same, within)
     ]
-
--- a line's counter has seven bits
-seven_bits_by : (lines limit : ℕ) (used : List (ℕ × Counter)) (line : ℕ) (last : Option Counter) → AreWithin lines limit used →
-    last_pair line used ≡ last → (unwrap_or last never_written).line < 128
-seven_bits_by lines limit used line None within is = omega arith
-seven_bits_by lines limit used line (Some last) within is = within.seven_bits line last (last_listed line used last is)
-
-pub counter_seven_bits : (lines limit : ℕ) (used : List (ℕ × Counter)) (line : ℕ) → AreWithin lines limit used →
-    (counter_in used line).line < 128
-counter_seven_bits lines limit used line within = seven_bits_by lines limit used line (last_pair line used) within refl
 
 -- the lines that are encrypted under it
 abbrev encrypted_of : ℕ → Bool → List ℕ
@@ -218,59 +199,14 @@ module _ (counter : Counter) where
 
   -- within the limit they stay within it
   pub within_more : (lines_count limit : ℕ) (used : List (ℕ × Counter)) (lines : List ℕ) → AreWithin lines_count limit used →
-      counter ≢ never_written → counter.page ≤ limit → counter.line < 128 → AreWithin lines_count limit (used ++ entries lines)
-  within_more lines_count limit used lines within started limited fits = record {
-    started = λ other found listed.
-        elim (entry_cases lines used other found listed) [
-          | inl early ↦ within.started other found early
-          | inr late ↦ λ none. started (late ∙ none)
-        ];
+      counter.page ≤ limit → AreWithin lines_count limit (used ++ entries lines)
+  within_more lines_count limit used lines within limited = record {
     limited = λ other found inside listed.
         elim (entry_cases lines used other found listed) [
           | inl early ↦ within.limited other found inside early
           | inr late ↦ subst (λ (c : Counter). c.page ≤ limit) late limited
         ];
-    seven_bits = λ other found listed.
-        elim (entry_cases lines used other found listed) [
-          | inl early ↦ within.seven_bits other found early
-          | inr late ↦ subst (λ (c : Counter). c.line < 128) late fits
-        ];
   }
-
-  -- how many of them name a line
-  named_if : (b : Bool) (entry : ℕ × Counter) (kept : List (ℕ × Counter)) → length kept ≤ length (cond b (entry ∷ kept) kept)
-  named_if true entry kept = omega arith
-  named_if false entry kept = omega arith
-
-  named : (lines : List ℕ) (other : ℕ) → Contains lines other → 1 ≤ line_entries (entries lines) other
-  named [] other listed = absurd (omega (arith, listed.1))
-  named (line ∷ lines) other (zero, within, same) =
-      let kept = filter (λ (e : ℕ × Counter). nat_eq e.0 other) (entries lines) in
-      let here : nat_eq line other ≡ true = (Decides-eqb line other).1 same in
-      let one_more : line_entries (entries (line ∷ lines)) other ≡ suc (length kept) =
-      ap (λ (b : Bool). length (cond b ((line, counter) ∷ kept) kept)) here in
-      omega (arith, one_more)
-  named (line ∷ lines) other (suc k, within, is) =
-      let rest = named lines other (k, omega (arith, within), is) in
-      let more = named_if (nat_eq line other) (line, counter) (filter (λ (e : ℕ × Counter). nat_eq e.0 other) (entries lines)) in
-      omega (arith, rest, more)
-
-  line_entries_more : (used : List (ℕ × Counter)) (lines : List ℕ) (other : ℕ) →
-      line_entries (used ++ entries lines) other ≡ line_entries used other + line_entries (entries lines) other
-  line_entries_more used lines other =
-      ap length (filter-append (λ (e : ℕ × Counter). nat_eq e.0 other) used (entries lines))
-      ∙ length-append (filter (λ (e : ℕ × Counter). nat_eq e.0 other) used) (filter (λ (e : ℕ × Counter). nat_eq e.0 other) (entries lines))
-
-  -- a line among them is named once more, and any other as often as before
-  pub line_entries_listed : (used : List (ℕ × Counter)) (lines : List ℕ) (other : ℕ) → Contains lines other →
-      line_entries used other + 1 ≤ line_entries (used ++ entries lines) other
-  line_entries_listed used lines other listed =
-      let more = line_entries_more used lines other in
-      let some = named lines other listed in
-      omega (arith, more, some)
-
-  pub line_entries_kept : (used : List (ℕ × Counter)) (lines : List ℕ) (other : ℕ) → line_entries used other ≤ line_entries (used ++ entries lines) other
-  line_entries_kept used lines other = let more = line_entries_more used lines other in omega (arith, more)
 
   -- how many of them are of a page
   abbrev lines_on : ℕ → List ℕ → List ℕ

@@ -16,12 +16,15 @@ use Rattle.bonsai_tree.proofs.MadeSlots.{slots_none}
 use Rattle.counter_cache.specs.Counters.{CountersView, HoldsCounters, cached_pages, counters_in}
 use Rattle.page_reencrypt.specs.Consistency.{IsConsistent}
 use Rattle.page_reencrypt.specs.Contents.{HoldsLast, NodesSay}
-use Rattle.page_reencrypt.specs.SealedLines.{AreOfPages, AreProtected, CountersRise, IsOfPage, SealedLinesView}
+use Rattle.page_reencrypt.specs.SealedLines.{AreProtected, CountersRise, IsOfPage, SealedLinesView}
 use Rattle.page_reencrypt.proofs.Kept.{protected_after}
 
 no_pairs : data_pairs [] ≡ []
 unfolding data_pairs
 no_pairs = refl
+
+no_page : (page : ℕ) → ¬ Contains [] page
+no_page page listed = omega (arith, listed.1)
 
 -- each line of each page has the counter of one that was never written
 new_says : (block : CounterBlockView) (page : ℕ) → block ≡ new_block → IsOfPage [] page block
@@ -47,13 +50,8 @@ new_last tag_of lines history = record { holds = λ line counter cipher inside l
 new_rise : (geometry : GeometryView) (limit : ℕ) → CountersRise geometry limit [] None
 unfolding last_at
 new_rise geometry limit = record {
-  rising = record { rise = λ first second line counter later before at after. absurd (cc) };
-  within = record {
-    started = λ line counter has. absurd (omega (arith, has.1));
-    limited = λ line counter inside has. absurd (omega (arith, has.1));
-    seven_bits = λ line counter has. absurd (omega (arith, has.1));
-  };
-  unskipped = record { reached = λ line inside. omega arith };
+  successive = record { each = λ at line counter there. absurd (cc) };
+  within = record { limited = λ line counter inside has. absurd (omega (arith, has.1)) };
   paged = λ going. record { one = λ line other inside within same_page. refl; reached = λ line inside. omega arith };
   spent = λ page is. absurd (cc);
 }
@@ -78,48 +76,26 @@ module _ {B T : Type 0} (d n : T → List ℕ → List ℕ) (history : B → Bus
     (same : (history bus).geometry ≡ geometry) (empty : NothingWritten (history bus)) (tree_geometry : counters.tree.geometry ≡ geometry)
     (holds : HoldsCounters (tags_of d n) counters (history bus) engine)
     (zeros : (page : ℕ) → page < page_count geometry → counters_in counters engine.made page ≡ new_block) (uncached : cached_pages counters ≡ []) where
+  abbrev memory : TagEngineView T → PadEngineView → SealedLinesView B T
+  memory tags entries = record { bus = bus; engine = tags; pads = entries; counters = counters; limit = limit; stopped = None }
+
   abbrev begun : SealedLinesView B T
-  begun = record { bus = bus; engine = engine; pads = pads; counters = counters; limit = limit; stopped = None }
+  begun = memory (new_engine tagger geometry) (new_pads key)
 
-  abbrev tag_of : Message → List ℕ
-  tag_of = tags_of d n engine
+  fits : HoldsCounters (tags_of d n) counters (history bus) (new_engine tagger geometry)
+  fits = subst (HoldsCounters (tags_of d n) counters (history bus)) new holds
 
-  no_messages : engine.made ≡ []
-  no_messages = ap (λ (e : TagEngineView T). e.made) new
-
-  geometry_are : engine.geometry ≡ geometry
-  geometry_are = ap (λ (e : TagEngineView T). e.geometry) new
-
-  no_entries : pads.used ≡ []
-  no_entries = ap (λ (p : PadEngineView). p.used) unused
-
-  history_geometry : (history bus).geometry ≡ engine.geometry
-  history_geometry = same ∙ sym geometry_are
-
-  consistent : IsConsistent tag_of engine.geometry (history bus) engine.made pads.used
-  consistent =
-      subst (λ (made : List Message). IsConsistent tag_of engine.geometry (history bus) made pads.used) (sym no_messages)
-      (subst (λ (u : List (ℕ × Counter)). IsConsistent tag_of engine.geometry (history bus) [] u) (sym no_entries)
-      (new_consistent tag_of engine.geometry (history bus) history_geometry empty (empty_nodes engine.geometry (history bus) history_geometry empty)))
-
-  says : (page : ℕ) → page < page_count engine.geometry → IsOfPage pads.used page (counters_in counters engine.made page)
+  says : (page : ℕ) → page < page_count geometry → IsOfPage [] page (counters_in counters [] page)
   says page inside =
-      subst (λ (u : List (ℕ × Counter)). IsOfPage u page (counters_in counters engine.made page)) (sym no_entries)
-      (new_says (counters_in counters engine.made page) page (zeros page (subst (λ (l : GeometryView). page < page_count l) geometry_are inside)))
+      new_says (counters_in counters [] page) page (ap (λ (e : TagEngineView T). counters_in counters e.made page) (sym new) ∙ zeros page inside)
 
-  no_pages : AreOfPages engine.geometry counters
-  no_pages = λ page cached.
-      let listed : Contains [] page = subst (λ (pages : List ℕ). Contains pages page) uncached cached in
-      absurd (omega (arith, listed.1))
-
-  pub boot_protected : AreProtected d n history begun
+  pub boot_protected : AreProtected d n history (memory engine pads)
   boot_protected =
-      protected_after d n history bus_moved begun (record { bus = bus; engine = engine; pads = pads }) counters None refl refl (tree_geometry ∙ sym geometry_are)
-      no_pages consistent
-      (λ goes_on. subst (λ (made : List Message). HoldsLast tag_of (line_count engine.geometry) made (history bus).written) (sym no_messages)
-      (new_last tag_of (line_count engine.geometry) (history bus)))
-      (λ goes_on. subst (λ (made : List Message). NodesHoldLast engine.geometry made (history bus).written) (sym no_messages) (new_nodes engine.geometry (history bus)))
-      (λ still. subst (λ (u : List (ℕ × Counter)). CountersRise engine.geometry limit u None) (sym no_entries) (new_rise engine.geometry limit))
-      (λ still. subst (NodesSay tag_of engine.geometry pads.used) (sym no_messages)
-      (subst (λ (u : List (ℕ × Counter)). NodesSay tag_of engine.geometry u []) (sym no_entries) (new_said tag_of engine.geometry)))
-      (λ goes_on. record { tree = record { fits = holds.tree.fits }; clean = holds.clean }) (λ goes_on still. says)
+      subst (λ (entries : PadEngineView). AreProtected d n history (memory engine entries)) (sym unused)
+      (subst (λ (tags : TagEngineView T). AreProtected d n history (memory tags (new_pads key))) (sym new)
+      (protected_after d n history bus_moved begun (record { bus = bus; engine = begun.engine; pads = begun.pads }) counters None refl refl tree_geometry
+      (λ page cached. absurd (no_page page (subst (λ (pages : List ℕ). Contains pages page) uncached cached)))
+      (new_consistent (tags_of d n begun.engine) geometry (history bus) same empty (empty_nodes geometry (history bus) same empty))
+      (λ goes_on. new_last (tags_of d n begun.engine) (line_count geometry) (history bus)) (λ goes_on. new_nodes geometry (history bus))
+      (λ still. new_rise geometry limit) (λ still. new_said (tags_of d n begun.engine) geometry)
+      (λ goes_on. record { tree = record { fits = fits.tree.fits }; clean = fits.clean }) (λ goes_on still. says)))

@@ -1,6 +1,6 @@
 -- The steps of a write of a line: its page's counters are had, memory is taken, they are counted up, and its lines are
 -- sealed.
-use Rattle.std.proofs.Common.{◌≡◌, ◌≢◌, ◌⊎◌, inl, inr, ℕ, ◌+◌, ◌<◌, ◌≤◌, max, List, [], ◌∷◌, ◌++◌, length, map, take, replicate, slice_index, slice_set, Option, Some, None, Contains, refl, ap, sym, ◌∙◌, subst, arith, length-append}
+use Rattle.std.proofs.Common.{◌≡◌, ◌≢◌, ◌⊎◌, inl, inr, ℕ, ◌+◌, ◌<◌, ◌≤◌, List, [], ◌∷◌, ◌++◌, length, map, take, replicate, slice_index, slice_set, Option, Some, None, Contains, refl, ap, sym, ◌∙◌, subst, arith, length-append}
 use Rattle.std.proofs.lemmas.Bool.{cases_eq}
 use Rattle.std.proofs.lemmas.List.{get_or-replicate, get_or-set_same, get_or-set_other, take_all}
 use Rattle.sec_base.specs.declared.counter.Counter.{Counter}
@@ -14,34 +14,32 @@ use Rattle.sec_base.specs.Geometry.{GeometryView, line_count, page_count, page_o
 use Rattle.sec_base.proofs.Results.{was_none}
 use Rattle.bus_model.specs.Access.{Access}
 use Rattle.bus_model.specs.BusHistory.{BusHistory, after_write}
-use Rattle.tag_engine.specs.TagEngine.{TagEngineView, after_make, tags_of, with_room as tags_with_room}
+use Rattle.tag_engine.specs.TagEngine.{after_make, tags_of}
 use Rattle.pad_stream.specs.Pad.{cipher_of}
-use Rattle.pad_stream.specs.PadEngine.{PadEngineView, after_encrypt, with_room as pads_with_room}
+use Rattle.pad_stream.specs.PadEngine.{after_encrypt, with_room as pads_with_room}
 use Rattle.pad_stream.specs.Pads.{IsBefore}
 use Rattle.checked_bus.specs.Makes.{MakesAccesses}
 use Rattle.checked_bus.specs.SealedLine.{sealed_line}
 use Rattle.checked_bus.specs.Steps.{IsAccounted, Moves as StepMoves}
 use Rattle.checked_bus.proofs.Steps.{moves_not as step_not}
 use Rattle.split_counter.specs.declared.bumped.Bumped.{Bumped}
-use Rattle.split_counter.specs.declared.bumped.Bumped.TheVariants.{Line as line_up, Page as page_up, Spent as used_up}
+use Rattle.split_counter.specs.declared.bumped.Bumped.TheVariants.{Line as line_up, Page as page_up}
 use Rattle.split_counter.specs.CounterBlock.{CounterBlockView, IsCounterBlock, after_bump, after_outcome, bumped, counter_of, last_counter, next_counter, place_of}
 use Rattle.bonsai_tree.specs.Tree.{IsFetchPlace, PathWasRead}
 use Rattle.counter_cache.specs.Counters.{CountersView, SameCounters, cached_pages, counter_accesses, counters_in}
 use Rattle.page_reencrypt.specs.Contents.{counter_in, lines_encrypted, page_lines}
 use Rattle.page_reencrypt.specs.Outside.{AreConsistent, AreSealed, AreSealedInOrder, CountersFit, CountersSay, DiffersInRoom, HasCounter, HaveLast, HaveRisen, IsWrite, LineWrite, MemoryTerms, OutsideView, terms_of, with_room}
-use Rattle.page_reencrypt.specs.SealedLines.{CopiesCame, IsOfPage}
+use Rattle.page_reencrypt.specs.SealedLines.{IsOfPage}
 use Rattle.page_reencrypt.specs.Stops.{lasting_stop}
 use Rattle.page_reencrypt.proofs.Consistency.{counter_in-same, counter_in-other}
 use Rattle.page_reencrypt.proofs.CountersHad.{CountedUpBy, IsGot}
 use Rattle.page_reencrypt.proofs.Entries.{counter_among, counter_beside, encrypted_line, encrypted_page, listed_page, next_after, next_line, next_page, page_listed}
 use Rattle.page_reencrypt.proofs.Reaching.{HasCome, IsReached, come_idle, come_on, early_write, late_counters, late_write, path_more, reached_risen, reached_roomy, reached_spent, reached_up}
 use Rattle.page_reencrypt.proofs.Stops.{unspent_going}
-use Rattle.page_reencrypt.proofs.UnderCounters.{counted_as_foreseen, foreseen_by}
+use Rattle.page_reencrypt.proofs.UnderCounters.{counter_by}
+use Rattle.counter_cache.proofs.Blocks.{counters_of_copy}
 use Rattle.counter_cache.specs.HadCounters.{IsCounted}
 use Rattle.page_reencrypt.proofs.Sealing.{all_in_order, listed_one, one_sealed, one_unwritten, own_reread, same_terms}
-
-max-right : (first second : ℕ) → second ≤ max first second
-max-right first second = omega arith
 
 -- The last counter
 
@@ -58,117 +56,55 @@ page_not_last limit counter below is = let same : counter.page ≡ limit = ap (�
 
 -- What the page's block says after a write
 
-line_of_page : (used used' : List (ℕ × Counter)) (line place : ℕ) (counter : Counter) (block block' : CounterBlockView) →
-    IsOfPage used (page_of line) block → place ≡ place_of line → used' ≡ used ++ (line, counter) ∷ [] → counter ≡ counter_of place block' →
-    block'.page ≡ block.page → ((other : ℕ) → other ≢ place → slice_index block'.lines other ≡ slice_index block.lines other) →
-    IsOfPage used' (page_of line) block'
-line_of_page used used' line place counter block block' was place_is entries now page others = λ other of_page.
-    ap (λ (u : List (ℕ × Counter)). counter_in u other) entries
-    ∙ elim (cases_eq other line) [
-      | inl same ↦
-          ap (counter_in (used ++ (line, counter) ∷ [])) same ∙ counter_in-same used line counter ∙ now
-          ∙ ap (λ (p : ℕ). counter_of p block') (place_is ∙ ap place_of (sym same))
-      | inr differs ↦
-          let apart : place_of other ≢ place = λ same. differs (omega (arith, of_page, same, place_is)) in
-          counter_in-other used line other counter differs ∙ was other of_page
-          ∙ ap (λ (p : ℕ). let c : Counter = record { page = p; line = slice_index block.lines (place_of other) } in c) (sym page)
-          ∙ ap (λ (l : ℕ). let c : Counter = record { page = block'.page; line = l } in c) (sym (others (place_of other) apart))
-    ]
-
-page_of_page : (used used' : List (ℕ × Counter)) (line page : ℕ) (block' : CounterBlockView) → block' ≡ record { page = page; lines = replicate 64 0 } →
-    used' ≡ used ++ map (λ at. (at, record { page = page; line = 0 })) (page_lines (page_of line)) → IsOfPage used' (page_of line) block'
-page_of_page used used' line page block' now entries = λ other of_page.
-    let counter : Counter = record { page = page; line = 0 } in
-    let zero_line : slice_index (replicate 64 0) (place_of other) ≡ 0 = get_or-replicate 64 (place_of other) 0 0 (omega arith) in
-    ap (λ (u : List (ℕ × Counter)). counter_in u other) entries
-    ∙ counter_among counter (page_lines (page_of line)) used other (page_listed (page_of line) other of_page)
-    ∙ ap (λ (l : ℕ). let c : Counter = record { page = page; line = l } in c) (sym zero_line)
-    ∙ ap (counter_of (place_of other)) (sym now)
-
 bumped_block : (place limit : ℕ) (block : CounterBlockView) (outcome : Bumped) → bumped limit (counter_of place block) ≡ outcome →
     (after_bump place limit block).1 ≡ after_outcome place outcome block
 unfolding after_bump
 bumped_block place limit block outcome is = ap (λ (o : Bumped). after_outcome place o block) is
 
--- The block after an ordinary write, and after an overflow.
-bumped_line : (used used' : List (ℕ × Counter)) (line place limit : ℕ) (counter : Counter) (block block' : CounterBlockView) → IsCounterBlock block →
-    IsOfPage used (page_of line) block → place ≡ place_of line → bumped limit (counter_of place block) ≡ line_up counter → counter.page ≡ block.page →
-    block' ≡ (after_bump place limit block).1 → used' ≡ used ++ (line, counter) ∷ [] → IsOfPage used' (page_of line) block'
-bumped_line used used' line place limit counter block block' is_block was place_is up page now entries =
-    let set : block' ≡ record { page = block.page; lines = slice_set block.lines place counter.line } = now ∙ bumped_block place limit block (line_up counter) up in
-    let inside : place < length block.lines = omega (arith, place_is, is_block.whole) in
-    let here : slice_index (slice_set block.lines place counter.line) place ≡ counter.line = get_or-set_same block.lines place counter.line 0 inside in
-    let said : counter ≡ counter_of place block' =
-    ap (λ (p : ℕ). let c : Counter = record { page = p; line = counter.line } in c) page
-    ∙ ap (λ (l : ℕ). let c : Counter = record { page = block.page; line = l } in c) (sym here)
-    ∙ ap (counter_of place) (sym set) in
-    line_of_page used used' line place counter block block' was place_is entries said (ap (λ (b : CounterBlockView). b.page) set)
-    (λ other differs. ap (λ (b : CounterBlockView). slice_index b.lines other) set ∙ get_or-set_other block.lines place other counter.line 0 differs)
+-- after an ordinary write
+bumped_line : (used : List (ℕ × Counter)) (line limit : ℕ) (counter : Counter) (block : CounterBlockView) → IsCounterBlock block →
+    IsOfPage used (page_of line) block → bumped limit (counter_of (place_of line) block) ≡ line_up counter → counter.page ≡ block.page →
+    IsOfPage (used ++ (line, counter) ∷ []) (page_of line) (after_bump (place_of line) limit block).1
+bumped_line used line limit counter block is_block was up page = λ other of_page.
+    let set : CounterBlockView = record { page = block.page; lines = slice_set block.lines (place_of line) counter.line } in
+    let inside : place_of line < length block.lines = omega (arith, is_block.whole) in
+    let said : counter_in (used ++ (line, counter) ∷ []) other ≡ counter_of (place_of other) set =
+    elim (cases_eq other line) [
+      | inl same ↦
+          ap (counter_in (used ++ (line, counter) ∷ [])) same ∙ counter_in-same used line counter
+          ∙ ap (λ (p : ℕ). let c : Counter = record { page = p; line = counter.line } in c) page
+          ∙ ap (λ (l : ℕ). let c : Counter = record { page = block.page; line = l } in c)
+          (sym (get_or-set_same block.lines (place_of line) counter.line 0 inside))
+          ∙ ap (λ (l : ℕ). counter_of (place_of l) set) (sym same)
+      | inr differs ↦
+          let apart : place_of other ≢ place_of line = λ same. differs (omega (arith, of_page, same)) in
+          counter_in-other used line other counter differs ∙ was other of_page
+          ∙ ap (λ (l : ℕ). let c : Counter = record { page = block.page; line = l } in c)
+          (sym (get_or-set_other block.lines (place_of line) (place_of other) counter.line 0 apart))
+    ] in
+    said ∙ ap (counter_of (place_of other)) (sym (bumped_block (place_of line) limit block (line_up counter) up))
 
-bumped_page : (used used' : List (ℕ × Counter)) (line place limit page : ℕ) (block block' : CounterBlockView) →
-    bumped limit (counter_of place block) ≡ page_up page → block' ≡ (after_bump place limit block).1 →
-    used' ≡ used ++ map (λ at. (at, record { page = page; line = 0 })) (page_lines (page_of line)) → IsOfPage used' (page_of line) block'
-bumped_page used used' line place limit page block block' up now entries =
-    page_of_page used used' line page block' (now ∙ bumped_block place limit block (page_up page) up) entries
+-- and after an overflow
+bumped_page : (used : List (ℕ × Counter)) (line place limit page : ℕ) (block : CounterBlockView) → bumped limit (counter_of place block) ≡ page_up page →
+    IsOfPage (used ++ map (λ at. (at, record { page = page; line = 0 })) (page_lines (page_of line))) (page_of line) (after_bump place limit block).1
+bumped_page used line place limit page block up = λ other of_page.
+    let zero_line : slice_index (replicate 64 0) (place_of other) ≡ 0 = get_or-replicate 64 (place_of other) 0 0 (omega arith) in
+    counter_among (record { page = page; line = 0 }) (page_lines (page_of line)) used other (page_listed (page_of line) other of_page)
+    ∙ ap (λ (l : ℕ). let c : Counter = record { page = page; line = l } in c) (sym zero_line)
+    ∙ ap (counter_of (place_of other)) (sym (bumped_block place limit block (page_up page) up))
 
 module _ {B T : Type 0} (history : B → BusHistory) (moved : B → List Access → B → Type 0) (d n : T → List ℕ → List ℕ) (old : OutsideView B T) (counters : CountersView) where
   abbrev terms : MemoryTerms B
   terms = terms_of history moved d n old
 
-  module _ (say : CountersSay terms old counters) where
-    -- the counters that say the entries still do, where both are the same
-    pub say_same : (new : OutsideView B T) (counters' : CountersView) (stop : Option MemStop) → IsReached terms old counters new counters' stop →
-        (new.engine.evidence ≡ None → SameCounters counters old.engine.made counters' new.engine.made) →
-        CountersSay terms new counters'
-    say_same new counters' stop reached same = λ quiet page inside line of_page.
-        let was_quiet = was_none old.engine.evidence new.engine.evidence reached.node.step.evidence quiet in
-        ap (λ (used : List (ℕ × Counter)). counter_in used line) reached.node.used ∙ say was_quiet page inside line of_page
-        ∙ ap (counter_of (place_of line)) (sym (same quiet page))
-
-    -- and where lines of one page were encrypted, and its block says so
-    pub say_on : (new : OutsideView B T) (counters' : CountersView) (line : ℕ) (counter : Counter) (lines : List ℕ) → old.engine.evidence ≡ None →
-        ((other : ℕ) → Contains lines other → page_of other ≡ page_of line) →
-        new.pads.used ≡ old.pads.used ++ map (λ at. (at, counter)) lines →
-        ((page : ℕ) → page ≢ page_of line → counters_in counters' new.engine.made page ≡ counters_in counters old.engine.made page) →
-        IsOfPage new.pads.used (page_of line) (counters_in counters' new.engine.made (page_of line)) → CountersSay terms new counters'
-    say_on new counters' line counter lines quiet of_page entries others here = λ still page inside other on_page.
-        elim (cases_eq page (page_of line)) [
-          | inl same ↦ here other (on_page ∙ same) ∙ ap (λ (p : ℕ). counter_of (place_of other) (counters_in counters' new.engine.made p)) (sym same)
-          | inr differs ↦
-              let apart : ¬ Contains lines other = λ listed. differs (sym on_page ∙ of_page other listed) in
-              ap (λ (used : List (ℕ × Counter)). counter_in used other) entries ∙ counter_beside counter lines old.pads.used other apart
-              ∙ say quiet page inside other on_page ∙ ap (counter_of (place_of other)) (sym (others page differs))
-        ]
-
-    -- as after an ordinary write of a line
-    pub say_line : (new : OutsideView B T) (counters' : CountersView) (line place limit : ℕ) (counter : Counter) → old.engine.evidence ≡ None → page_of line < page_count terms.geometry →
-        IsCounterBlock (counters_in counters old.engine.made (page_of line)) → place ≡ place_of line →
-        bumped limit (counter_of place (counters_in counters old.engine.made (page_of line))) ≡ line_up counter →
-        counter ≡ next_counter (counter_in old.pads.used line) → (counter_in old.pads.used line).line < 127 →
-        counters_in counters' new.engine.made (page_of line) ≡ (after_bump place limit (counters_in counters old.engine.made (page_of line))).1 →
-        ((page : ℕ) → page ≢ page_of line → counters_in counters' new.engine.made page ≡ counters_in counters old.engine.made page) →
-        new.pads.used ≡ old.pads.used ++ (line, counter) ∷ [] → CountersSay terms new counters'
-    say_line new counters' line place limit counter quiet inside is_block place_is up next less now others entries =
-        let block : CounterBlockView = counters_in counters old.engine.made (page_of line) in
-        let was : IsOfPage old.pads.used (page_of line) block = say quiet (page_of line) inside in
-        let not_full : (counter_in old.pads.used line).line ≢ 127 = λ full. omega (arith, full, less) in
-        let same_page : counter.page ≡ block.page =
-        ap (λ (c : Counter). c.page) (next ∙ next_line (counter_in old.pads.used line) not_full) ∙ ap (λ (c : Counter). c.page) (was line refl) in
-        say_on new counters' line counter (line ∷ []) quiet
-        (λ other listed. ap page_of (sym (listed_one line other listed))) entries others
-        (bumped_line old.pads.used new.pads.used line place limit counter block (counters_in counters' new.engine.made (page_of line)) is_block was place_is up same_page now entries)
-
-    -- and after an overflow
-    pub say_page : (new : OutsideView B T) (counters' : CountersView) (line place limit page : ℕ) → old.engine.evidence ≡ None →
-        bumped limit (counter_of place (counters_in counters old.engine.made (page_of line))) ≡ page_up page →
-        counters_in counters' new.engine.made (page_of line) ≡ (after_bump place limit (counters_in counters old.engine.made (page_of line))).1 →
-        ((other : ℕ) → other ≢ page_of line → counters_in counters' new.engine.made other ≡ counters_in counters old.engine.made other) →
-        new.pads.used ≡ old.pads.used ++ map (λ at. (at, record { page = page; line = 0 })) (page_lines (page_of line)) → CountersSay terms new counters'
-    say_page new counters' line place limit page quiet up now others entries =
-        say_on new counters' line (record { page = page; line = 0 }) (page_lines (page_of line)) quiet
-        (λ other listed. listed_page (page_of line) other listed) entries others
-        (bumped_page old.pads.used new.pads.used line place limit page (counters_in counters old.engine.made (page_of line))
-        (counters_in counters' new.engine.made (page_of line)) up now entries)
+  -- the counters that say the entries still do, where both are the same
+  pub say_same : CountersSay terms old counters → (new : OutsideView B T) (counters' : CountersView) (stop : Option MemStop) →
+      IsReached terms old counters new counters' stop → (new.engine.evidence ≡ None → SameCounters counters old.engine.made counters' new.engine.made) →
+      CountersSay terms new counters'
+  say_same say new counters' stop reached same = λ quiet page inside line of_page.
+      let was_quiet = was_none old.engine.evidence new.engine.evidence reached.node.step.evidence quiet in
+      ap (λ (used : List (ℕ × Counter)). counter_in used line) reached.node.used ∙ say was_quiet page inside line of_page
+      ∙ ap (counter_of (place_of line)) (sym (same quiet page))
 
   -- it stopped before a line was sealed
   pub stopped_early : (new : OutsideView B T) (counters' : CountersView) (why : MemStop) → IsReached terms old counters new counters' (Some why) →
@@ -209,9 +145,7 @@ module _ {B T : Type 0} (history : B → BusHistory) (moved : B → List Access 
     pub refused_reached : (new : OutsideView B T) → DiffersInRoom got new → IsReached terms old counters new counters' (Some NoMemory)
     refused_reached new differs =
         reached_roomy terms unmoved moved_on old got new counters counters' (Some NoMemory) differs.room got.pads (λ place is. cc) refl refl
-        (ap (λ (b : B). let o : OutsideView B T = record { bus = b; engine = new.engine; pads = new.pads } in o) differs.bus
-        ∙ ap (λ (e : TagEngineView T). let o : OutsideView B T = record { bus = got.bus; engine = e; pads = new.pads } in o) differs.engine
-        ∙ ap (λ (p : PadEngineView). let o : OutsideView B T = record { bus = got.bus; engine = tags_with_room differs.room got.engine; pads = p } in o) differs.pads) a
+        (rw (← differs.bus, ← differs.engine, ← differs.pads) refl) a
 
     module _ (roomy : OutsideView B T) (taken : roomy ≡ with_room 64 64 got) where
       pub roomy_reached : IsReached terms old counters roomy counters' None
@@ -224,17 +158,13 @@ module _ {B T : Type 0} (history : B → BusHistory) (moved : B → List Access 
       pub roomy_fits : CountersFit (terms_of history moved d n roomy) roomy counters'
       roomy_fits = subst (λ (t : MemoryTerms B). CountersFit t roomy counters') (sym roomy_terms) (roomy_reached.fits refl)
 
-      roomy_room : 64 ≤ roomy.engine.room
-      roomy_room = let room = ap (λ (o : OutsideView B T). o.engine.room) taken in omega (arith, room, max-right got.engine.room 64)
-
-      roomy_pads : 64 ≤ roomy.pads.room
-      roomy_pads = let room = ap (λ (o : OutsideView B T). o.pads.room) taken in omega (arith, room, max-right got.pads.room 64)
-
       -- there is memory for a page
       roomy_rooms : (64 ≤ roomy.pads.room) × (64 ≤ roomy.engine.room) × (length old.engine.made + 64 ≤ length roomy.engine.made + roomy.engine.room)
       roomy_rooms =
+          let pads = ap (λ (o : OutsideView B T). o.pads.room) taken in
+          let room = ap (λ (o : OutsideView B T). o.engine.room) taken in
           let made = ap length roomy_reached.node.step.made ∙ length-append old.engine.made roomy_reached.node.step.more in
-          (roomy_pads, roomy_room, omega (arith, made, roomy_room))
+          (omega (arith, pads), omega (arith, room), omega (arith, made, room))
 
   -- The counters of the page were had: its block says that of the line, by which a write was foreseen.
   pub record IsForeseen (limit line page place : ℕ) (got : OutsideView B T) (counters' : CountersView) (block : CounterBlockView) (counter : Counter) (foreseen : Bumped) : Type 0 where
@@ -288,11 +218,12 @@ module _ {B T : Type 0} {history : B → BusHistory} {moved : B → List Access 
   -- a write is foreseen by the counters that were had, and counting it comes to that
   pub foreseen_here : foreseen ≡ bumped limit (counter_of (place_of line) (counters_in counters' got.engine.made (page_of line)))
   foreseen_here =
-      foreseen_by counters' got.engine.made line page place limit block counter0 foreseen had.page_is had.place_is had.answer had.counter_is had.foreseen_is
+      had.foreseen_is ∙ ap (bumped limit) (counter_by counters' got.engine.made line page place block counter0 had.page_is had.place_is had.answer had.counter_is)
 
   pub counted_here : {counters'' : CountersView} {outcome : Bumped} → IsCounted counters' counters'' page place limit outcome → outcome ≡ foreseen
-  counted_here {counters''} {outcome} is =
-      counted_as_foreseen counters' counters'' got.engine.made page place limit block counter0 foreseen outcome had.answer had.counter_is had.foreseen_is is
+  counted_here is =
+      is.comes ∙ ap (λ (b : CounterBlockView). bumped limit (counter_of place b)) (sym (had.answer ∙ counters_of_copy counters' got.engine.made page is.bytes is.copied))
+      ∙ ap (bumped limit) (sym had.counter_is) ∙ sym had.foreseen_is
 
   -- and then they were counted up
   pub record CountedUp (roomy : OutsideView B T) (counters'' : CountersView) (outcome : Bumped) : Type 0 where
@@ -301,11 +232,11 @@ module _ {B T : Type 0} {history : B → BusHistory} {moved : B → List Access 
     pub come : HasCome seen (page_of line) old counters roomy counters'' None
     pub by : CountedUpBy history moved d n roomy counters' counters'' page place limit outcome
 
-  pub counted_up : (unmoved : (bus : B) → moved bus [] bus)
+  pub successive : (unmoved : (bus : B) → moved bus [] bus)
       (moved_on : (first second third : B) (before after : List Access) → moved first before second → moved second after third → moved first (before ++ after) third)
       (roomy : OutsideView B T) (counters'' : CountersView) (outcome : Bumped) → roomy ≡ with_room 64 64 got →
       CountedUpBy history moved d n roomy counters' counters'' page place limit outcome → CountedUp roomy counters'' outcome
-  counted_up unmoved moved_on roomy counters'' outcome taken by =
+  successive unmoved moved_on roomy counters'' outcome taken by =
       let fit = roomy_fits history moved d n old counters got counters' had.got_is.reached unmoved moved_on roomy taken in
       let before = roomy_reached history moved d n old counters got counters' had.got_is.reached unmoved moved_on roomy taken in
       let had_come : HasCome seen (page_of line) old counters roomy counters' None =
@@ -319,9 +250,7 @@ module _ {B T : Type 0} {history : B → BusHistory} {moved : B → List Access 
             (step_not (history roomy.bus) roomy.engine) had_come
             (record {
               few = by.few;
-              copies = λ quiet.
-                  subst (λ (p : ℕ). CopiesCame p (history roomy.bus) roomy.engine.made counters' (history roomy.bus) roomy.engine.made counters'' None) had.page_is
-                  (by.came fit quiet);
+              copies = λ quiet. rw (← had.page_is) (by.came fit quiet);
               unread = λ quiet level index none. refl;
             });
         by = by;
@@ -329,8 +258,8 @@ module _ {B T : Type 0} {history : B → BusHistory} {moved : B → List Access 
 
   module _ (unmoved : (bus : B) → moved bus [] bus) (moved_on : (first second third : B) (before after : List Access) → moved first before second → moved second after third → moved first (before ++ after) third)
       {roomy : OutsideView B T} {counters'' : CountersView} {outcome : Bumped} (up : CountedUp roomy counters'' outcome) where
-    up_room : (64 ≤ roomy.pads.room) × (64 ≤ roomy.engine.room) × (length old.engine.made + 64 ≤ length roomy.engine.made + roomy.engine.room)
-    up_room = roomy_rooms history moved d n old counters got counters' had.got_is.reached unmoved moved_on roomy up.taken
+    pub mid_rooms : (64 ≤ roomy.pads.room) × (64 ≤ roomy.engine.room) × (length old.engine.made + 64 ≤ length roomy.engine.made + roomy.engine.room)
+    mid_rooms = roomy_rooms history moved d n old counters got counters' had.got_is.reached unmoved moved_on roomy up.taken
 
     mid_quiet : roomy.engine.evidence ≡ None → got.engine.evidence ≡ None
     mid_quiet quiet = sym (ap (λ (o : OutsideView B T). o.engine.evidence) up.taken) ∙ quiet
@@ -338,26 +267,44 @@ module _ {B T : Type 0} {history : B → BusHistory} {moved : B → List Access 
     roomy_block : roomy.engine.evidence ≡ None → (other : ℕ) → counters_in counters' roomy.engine.made other ≡ counters_in counters old.engine.made other
     roomy_block quiet other = ap (λ (o : OutsideView B T). counters_in counters' o.engine.made other) up.taken ∙ had.got_is.same (mid_quiet quiet) other
 
-    up_bumped : roomy.engine.evidence ≡ None → bumped limit (counter_of place (counters_in counters old.engine.made (page_of line))) ≡ outcome
-    up_bumped quiet =
-        sym (up.by.outcome_is
-        ∙ ap (λ (b : CounterBlockView). bumped limit (counter_of place b)) (roomy_block quiet page ∙ ap (counters_in counters old.engine.made) had.page_is))
+    up_by : CountedUpBy history moved d n roomy counters' counters'' (page_of line) (place_of line) limit outcome
+    up_by = rw (← had.page_is, ← had.place_is) up.by
+
+    abbrev block_before : CounterBlockView
+    block_before = counters_in counters old.engine.made (page_of line)
+
+    up_bumped : roomy.engine.evidence ≡ None → bumped limit (counter_of (place_of line) block_before) ≡ outcome
+    up_bumped quiet = sym (up_by.outcome_is ∙ ap (λ (b : CounterBlockView). bumped limit (counter_of (place_of line) b)) (roomy_block quiet (page_of line)))
 
     -- as it was foreseen
-    pub up_foreseen : roomy.engine.evidence ≡ None → foreseen ≡ outcome
-    up_foreseen quiet =
-        had.foreseen_is ∙ ap (bumped limit) had.counter_is
-        ∙ ap (λ (b : CounterBlockView). bumped limit (counter_of place b)) (block_at (mid_quiet quiet)) ∙ up_bumped quiet
+    pub up_foreseen : foreseen ≡ outcome
+    up_foreseen =
+        foreseen_here ∙ sym (up_by.outcome_is
+        ∙ ap (λ (o : OutsideView B T). bumped limit (counter_of (place_of line) (counters_in counters' o.engine.made (page_of line)))) up.taken)
 
-    up_now : roomy.engine.evidence ≡ None →
-        counters_in counters'' roomy.engine.made (page_of line) ≡ (after_bump place limit (counters_in counters old.engine.made (page_of line))).1
-    up_now quiet =
-        subst (λ (p : ℕ). counters_in counters'' roomy.engine.made p ≡ (after_bump place limit (counters_in counters' roomy.engine.made p)).1) had.page_is up.by.now
-        ∙ ap (λ (b : CounterBlockView). (after_bump place limit b).1) (roomy_block quiet (page_of line))
-
-    up_others : roomy.engine.evidence ≡ None → (other : ℕ) → other ≢ page_of line →
-        counters_in counters'' roomy.engine.made other ≡ counters_in counters old.engine.made other
-    up_others quiet other differs = up.by.others other (λ same. differs (same ∙ had.page_is)) ∙ roomy_block quiet other
+    -- Lines of the page were encrypted since: its block, as it was counted up, says so, and the others say what they said.
+    says_after : (new : OutsideView B T) (counter : Counter) (lines : List ℕ) → roomy.engine.evidence ≡ None →
+        ((other : ℕ) → Contains lines other → page_of other ≡ page_of line) → new.pads.used ≡ roomy.pads.used ++ map (λ at. (at, counter)) lines →
+        ((page : ℕ) → counters_in counters'' new.engine.made page ≡ counters_in counters'' roomy.engine.made page) →
+        IsOfPage (old.pads.used ++ map (λ at. (at, counter)) lines) (page_of line) (after_bump (place_of line) limit block_before).1 →
+        CountersSay seen new counters''
+    says_after new counter lines quiet of_page entries kept here = λ still page inside other on_page.
+        let said : counter_in (old.pads.used ++ map (λ at. (at, counter)) lines) other
+        ≡ counter_of (place_of other) (counters_in counters'' roomy.engine.made page) =
+        elim (cases_eq page (page_of line)) [
+          | inl same ↦
+              here other (on_page ∙ same)
+              ∙ ap (λ (b : CounterBlockView). counter_of (place_of other) (after_bump (place_of line) limit b).1) (sym (roomy_block quiet (page_of line)))
+              ∙ ap (counter_of (place_of other)) (sym up_by.now)
+              ∙ ap (λ (p : ℕ). counter_of (place_of other) (counters_in counters'' roomy.engine.made p)) (sym same)
+          | inr differs ↦
+              counter_beside counter lines old.pads.used other (λ listed. differs (sym on_page ∙ of_page other listed))
+              ∙ say (got_quiet (mid_quiet quiet)) page inside other on_page
+              ∙ ap (counter_of (place_of other)) (sym (up_by.others page differs ∙ roomy_block quiet page))
+        ] in
+        ap (λ (used : List (ℕ × Counter)). counter_in used other)
+        (entries ∙ ap (λ (used : List (ℕ × Counter)). used ++ map (λ at. (at, counter)) lines) up.reached.node.used)
+        ∙ said ∙ ap (counter_of (place_of other)) (sym (kept page))
 
     mid_terms : terms_of history moved d n roomy ≡ seen
     mid_terms = same_terms history moved d n old roomy up.reached.node.step.tagger up.reached.node.step.geometry
@@ -381,28 +328,16 @@ module _ {B T : Type 0} {history : B → BusHistory} {moved : B → List Access 
         let was_quiet = got_quiet (mid_quiet quiet) in
         let said : counter_in old.pads.used at ≡ counter_of (place_of at) block =
         say was_quiet (page_of line) page_within at of_page ∙ ap (counter_of (place_of at)) (sym (block_at (mid_quiet quiet))) in
-        subst (λ (u : List (ℕ × Counter)). HasCounter u at (counter_of (place_of at) block)) (sym up.reached.node.used)
-        (subst (HasCounter old.pads.used at) said (started was_quiet at))
+        rw (up.reached.node.used, ← said) (started was_quiet at)
 
     -- and an overflow raises the page counter
     pub mid_later : (raised : ℕ) → outcome ≡ page_up raised →
         ((next : ℕ) → foreseen ≡ page_up next → (counter0.line ≡ 127) × (counter0.page < limit) × (next ≡ counter0.page + 1)) →
         roomy.engine.evidence ≡ None → block.page < raised
     mid_later raised is page_next quiet =
-        let facts = page_next raised (up_foreseen quiet ∙ is) in
+        let facts = page_next raised (up_foreseen ∙ is) in
         let same : counter0.page ≡ block.page = ap (λ (c : Counter). c.page) had.counter_is in
         omega (arith, facts.2, same)
-
-    pub mid_rooms : (64 ≤ roomy.pads.room) × (64 ≤ roomy.engine.room)
-    mid_rooms = (up_room.0, up_room.1)
-
-    -- It is spent after all, which comes only where there is evidence.
-    pub spent_after : (bytes : List ℕ) → HaveRisen seen old → outcome ≡ used_up → foreseen ≢ used_up →
-        IsWrite seen limit line bytes old counters roomy counters'' (Some (Spent page))
-    spent_after bytes rose spent not_foreseen =
-        spent_early history moved d n old counters roomy counters'' page up.reached limit line bytes rose
-        (λ quiet. absurd (not_foreseen (up_foreseen quiet ∙ spent))) (inr (up_room.0, up_room.2)) had.page_is
-        (λ quiet. absurd (not_foreseen (up_foreseen quiet ∙ spent))) (λ quiet last. absurd (not_foreseen (up_foreseen quiet ∙ spent))) up.come
 
     module _ (started : old.engine.evidence ≡ None → (at : ℕ) → HasCounter old.pads.used at (counter_in old.pads.used at)) (bytes : List ℕ) where
       path_on : roomy.engine.evidence ≡ None → ¬ Contains (cached_pages counters) (page_of line) →
@@ -424,19 +359,14 @@ module _ {B T : Type 0} {history : B → BusHistory} {moved : B → List Access 
           IsAccounted (tags_of d n roomy.engine) used roomy.engine.made (history roomy.bus) None roomy.engine.evidence →
           IsAccounted (tags_of d n roomy.engine) more new.engine.made (history new.bus) None new.engine.evidence) where
         next_is : roomy.engine.evidence ≡ None → ((counter_in old.pads.used line).line < 127) × (counter ≡ next_counter (counter_in old.pads.used line))
-        next_is quiet =
-            subst (λ (c : Counter). (c.line < 127) × (counter ≡ next_counter c)) (sym (counter_here (mid_quiet quiet)))
-            (line_next counter (up_foreseen quiet ∙ is))
+        next_is quiet = rw (counter_here (mid_quiet quiet)) (line_next counter (up_foreseen ∙ is))
 
         new_quiet : new.engine.evidence ≡ None → roomy.engine.evidence ≡ None
         new_quiet quiet = was_none roomy.engine.evidence new.engine.evidence moves.evidence quiet
 
         had_it : roomy.engine.evidence ≡ None → HasCounter roomy.pads.used line (counter_in old.pads.used line) × IsBefore (counter_in old.pads.used line) counter
-        had_it quiet = (
-          subst (λ (u : List (ℕ × Counter)). HasCounter u line (counter_in old.pads.used line)) (sym up.reached.node.used)
-              (started (got_quiet (mid_quiet quiet)) line),
-          subst (IsBefore (counter_in old.pads.used line)) (sym (next_is quiet).1) (next_after (counter_in old.pads.used line)),
-        )
+        had_it quiet =
+            (rw up.reached.node.used (started (got_quiet (mid_quiet quiet)) line), rw (next_is quiet).1 (next_after (counter_in old.pads.used line)))
 
         one_line : line ∷ [] ≡ lines_encrypted counter line
         one_line = sym (encrypted_line counter line (λ none. omega (arith, none, some)))
@@ -455,13 +385,14 @@ module _ {B T : Type 0} {history : B → BusHistory} {moved : B → List Access 
             late_write seen old counters roomy counters'' new up.reached line bytes counter stop in_order moved_on limit
             (λ quiet. (next_is (new_quiet quiet)).1) (λ quiet. line_not_last limit (counter_in old.pads.used line) (next_is (new_quiet quiet)).0)
             (λ none quiet.
-            say_line history moved d n old counters say new counters'' line place limit counter (got_quiet (mid_quiet (new_quiet quiet))) page_within
-            (subst IsCounterBlock (block_at (mid_quiet (new_quiet quiet))) had.is_block) had.place_is
-            (up_bumped (new_quiet quiet) ∙ is) (next_is (new_quiet quiet)).1 (next_is (new_quiet quiet)).0
-            (late_counters seen old counters roomy counters'' new up.reached line bytes counter stop in_order (page_of line) ∙ up_now (new_quiet quiet))
-            (λ other differs. late_counters seen old counters roomy counters'' new up.reached line bytes counter stop in_order other ∙ up_others (new_quiet quiet) other differs)
-            (in_terms.entries ∙ ap (λ (u : List (ℕ × Counter)). u ++ (line, counter) ∷ []) up.reached.node.used) quiet)
-            up_room.0 up_room.2 path_on (λ place is. absurd (untampered place is)) going up.come
+            let calm = new_quiet quiet in
+            let was : IsOfPage old.pads.used (page_of line) block_before = say (got_quiet (mid_quiet calm)) (page_of line) page_within in
+            let not_full : (counter_in old.pads.used line).line ≢ 127 = λ full. omega (arith, full, (next_is calm).0) in
+            says_after new counter (line ∷ []) calm (λ other listed. ap page_of (sym (listed_one line other listed))) in_terms.entries
+            (late_counters seen old counters roomy counters'' new up.reached line bytes counter stop in_order)
+            (bumped_line old.pads.used line limit counter block_before (subst IsCounterBlock (block_at (mid_quiet calm)) had.is_block) was (up_bumped calm ∙ is)
+            (ap (λ (c : Counter). c.page) ((next_is calm).1 ∙ next_line (counter_in old.pads.used line) not_full) ∙ ap (λ (c : Counter). c.page) (was line refl))) quiet)
+            mid_rooms.0 mid_rooms.2 path_on (λ place is. absurd (untampered place is)) going up.come
 
         pub line_written : HaveRisen seen old → MakesAccesses moved (tags_of d n roomy.engine) roomy.bus roomy.engine new.bus new.engine None →
             history new.bus ≡ after_write (line_place line) (sealed_line (tags_of d n roomy.engine) line counter (cipher_of roomy.pads.key line counter bytes)) (history roomy.bus) →
@@ -491,44 +422,38 @@ module _ {B T : Type 0} {history : B → BusHistory} {moved : B → List Access 
         page_facts : roomy.engine.evidence ≡ None → ((counter_in old.pads.used line).line ≡ 127) × ((counter_in old.pads.used line).page < limit)
             × (paged ≡ next_counter (counter_in old.pads.used line))
         page_facts quiet =
-            let facts = subst (λ (c : Counter). (c.line ≡ 127) × (c.page < limit) × (raised ≡ c.page + 1)) (sym (counter_here (mid_quiet quiet)))
-            (page_next raised (up_foreseen quiet ∙ is)) in (
+            let facts = rw (← counter_here (mid_quiet quiet)) at (page_next raised (up_foreseen ∙ is)) in (
               facts.0,
               facts.1,
               ap (λ (p : ℕ). let c : Counter = record { page = p; line = 0 } in c) facts.2
                   ∙ sym (next_page (counter_in old.pads.used line) facts.0),
             )
 
-        pub page_overflows : new.engine.evidence ≡ None → (next_counter (counter_in old.pads.used line)).line ≡ 0
-        page_overflows quiet =
-            ap (λ (c : Counter). c.line) (next_page (counter_in old.pads.used line)
-            (page_facts (was_none roomy.engine.evidence new.engine.evidence sealed.sealed.step.evidence quiet)).0)
-
-        page_terms : terms_of history moved d n roomy ≡ seen
-        page_terms = same_terms history moved d n old roomy up.reached.node.step.tagger up.reached.node.step.geometry
-
         page_quiet : new.engine.evidence ≡ None → roomy.engine.evidence ≡ None
         page_quiet quiet = was_none roomy.engine.evidence new.engine.evidence sealed.sealed.step.evidence quiet
 
+        pub page_overflows : new.engine.evidence ≡ None → (next_counter (counter_in old.pads.used line)).line ≡ 0
+        page_overflows quiet =
+            ap (λ (c : Counter). c.line) (next_page (counter_in old.pads.used line)
+            (page_facts (page_quiet quiet)).0)
+
         page_order : AreSealedInOrder seen (record { line = line; bytes = bytes; counter = paged }) roomy (lines_encrypted paged line) new stop
         page_order =
-            subst (λ (t : MemoryTerms B). AreSealedInOrder t (record { line = line; bytes = bytes; counter = paged }) roomy (lines_encrypted paged line) new stop) page_terms
-            (subst (λ (xs : List ℕ). AreSealedInOrder (terms_of history moved d n roomy) (record { line = line; bytes = bytes; counter = paged }) roomy xs new stop)
-            (sym (encrypted_page paged line refl)) sealed)
+            rw (encrypted_page paged line refl)
+            (subst (λ (t : MemoryTerms B). AreSealedInOrder t (record { line = line; bytes = bytes; counter = paged }) roomy (page_lines (page_of line)) new stop) mid_terms sealed)
 
         page_say : stop ≡ None → CountersSay seen new counters''
         page_say none quiet =
             let every : take page_order.count (lines_encrypted paged line) ≡ lines_encrypted paged line =
             take_all page_order.count (lines_encrypted paged line) (omega (arith, page_order.whole none)) in
-            say_page history moved d n old counters say new counters'' line place limit raised (got_quiet (mid_quiet (page_quiet quiet))) (up_bumped (page_quiet quiet) ∙ is)
-            (late_counters seen old counters roomy counters'' new up.reached line bytes paged stop page_order (page_of line) ∙ up_now (page_quiet quiet))
-            (λ other differs. late_counters seen old counters roomy counters'' new up.reached line bytes paged stop page_order other ∙ up_others (page_quiet quiet) other differs)
-            (page_order.sealed.entries ∙ ap (λ (xs : List ℕ). roomy.pads.used ++ map (λ at. (at, paged)) xs) (every ∙ encrypted_page paged line refl)
-            ∙ ap (λ (u : List (ℕ × Counter)). u ++ map (λ at. (at, paged)) (page_lines (page_of line))) up.reached.node.used) quiet
+            says_after new paged (page_lines (page_of line)) (page_quiet quiet) (λ other listed. listed_page (page_of line) other listed)
+            (page_order.sealed.entries ∙ ap (λ (xs : List ℕ). roomy.pads.used ++ map (λ at. (at, paged)) xs) (every ∙ encrypted_page paged line refl))
+            (late_counters seen old counters roomy counters'' new up.reached line bytes paged stop page_order)
+            (bumped_page old.pads.used line (place_of line) limit raised block_before (up_bumped (page_quiet quiet) ∙ is)) quiet
 
         pub page_written : IsWrite seen limit line bytes old counters new counters'' stop
         page_written =
             late_write seen old counters roomy counters'' new up.reached line bytes paged stop page_order moved_on limit
             (λ quiet. (page_facts (page_quiet quiet)).2)
             (λ quiet. page_not_last limit (counter_in old.pads.used line) (page_facts (page_quiet quiet)).1) page_say
-            up_room.0 up_room.2 path_on (λ place is. refl) (unspent_going stop page_order.sealed.unspent) up.come
+            mid_rooms.0 mid_rooms.2 path_on (λ place is. refl) (unspent_going stop page_order.sealed.unspent) up.come

@@ -1,5 +1,5 @@
 -- What a step over the nodes leaves of the memory outside.
-use Rattle.std.proofs.Common.{◌≡◌, ◌≢◌, ◌⊎◌, inl, inr, ℕ, List, [], ◌∷◌, ◌++◌, Option, Some, None, Contains, Result, Ok, Err, OnErr, refl, ap, sym, ◌∙◌, subst, append_assoc}
+use Rattle.std.proofs.Common.{◌≡◌, ◌≢◌, ◌⊎◌, inl, inr, ℕ, List, [], ◌∷◌, ◌++◌, Option, Some, None, Result, Ok, Err, OnErr, refl, ap, sym, ◌∙◌, subst, append_assoc}
 use Rattle.std.proofs.lemmas.List.{append-nil}
 use Rattle.std.proofs.lemmas.List.Elements.{Contains-append_left}
 use Rattle.sec_base.specs.declared.counter.Counter.{Counter}
@@ -10,7 +10,6 @@ use Rattle.sec_base.specs.declared.stop.MemStop.{MemStop}
 use Rattle.sec_base.specs.declared.stop.MemStop.TheVariants.{NoMemory}
 use Rattle.sec_base.specs.Geometry.{GeometryView, line_count}
 use Rattle.sec_base.specs.LastMessage.{data_pairs, data_part, last_data}
-use Rattle.sec_base.specs.Place.{zeros_of}
 use Rattle.sec_base.proofs.LastMessages.{last_of_other}
 use Rattle.bus_model.specs.Access.{Access}
 use Rattle.bus_model.specs.BusHistory.{BusHistory}
@@ -53,8 +52,7 @@ module _ (tag_of : Message → List ℕ) (old new : BusHistory) (made made' : Li
   still_sealed used line bytes is = record {
     counter = is.counter;
     cipher = is.cipher;
-    made_there = subst (λ (m : List Message). Contains m (Line line is.counter is.cipher)) (sym lines.made_more)
-        (Contains-append_left made lines.more (Line line is.counter is.cipher) is.made_there);
+    made_there = rw lines.made_more (Contains-append_left made lines.more (Line line is.counter is.cipher) is.made_there);
     used_there = is.used_there;
     sealed = is.sealed;
   }
@@ -62,8 +60,7 @@ module _ (tag_of : Message → List ℕ) (old new : BusHistory) (made made' : Li
   holds_still : (count : ℕ) (used : List (ℕ × Counter)) → HoldsSealed tag_of count made used old.written → HoldsSealed tag_of count made' used new.written
   holds_still count used was = record {
     holds = λ line inside.
-        subst (λ (bytes : List ℕ). (bytes ≡ zeros_of (line_place line)) ⊎ IsSealed tag_of made' used line bytes) (sym (lines.written line))
-        (elim (was.holds line inside) [
+        rw (lines.written line) (elim (was.holds line inside) [
           | inl zeros ↦ inl zeros
           | inr is ↦ inr (still_sealed used line (old.written (line_place line)) is)
         ]);
@@ -81,8 +78,7 @@ module _ (tag_of : Message → List ℕ) (old new : BusHistory) (made made' : Li
     bus_geometry = same ∙ kept.bus_geometry;
     paired = same_pairs old new made made' lines ∙ kept.paired;
     long = λ line counter cipher listed.
-        kept.long line counter cipher (line_before made lines.more line counter cipher lines.no_lines
-        (subst (λ (m : List Message). Contains m (Line line counter cipher)) lines.made_more listed));
+        kept.long line counter cipher (line_before made lines.more line counter cipher lines.no_lines (rw lines.made_more at listed));
     sealed = holds_still (line_count geometry) used kept.sealed;
     nodes = nodes;
   }
@@ -105,28 +101,15 @@ module _ {B T : Type 0} (history : B → BusHistory) (moved : B → List Access 
       IsNodeStep terms old new stop
   node_step tree stop geometry kept last nodes trace moves lines made_blocks last_blocks = record {
     trace = trace;
-    step = record {
-      bus_geometry = moves.bus_geometry;
-      geometry = moves.geometry;
-      tagger = moves.tagger;
-      more = lines.more;
-      made = lines.made_more;
-      evidence = moves.evidence;
-      reads = moves.reads;
-      accesses = moves.accesses;
-      lies = moves.lies;
-    };
+    step = record moves { more = lines.more; made = lines.made_more };
     pairs = lines.no_lines;
     lines = lines;
     used = refl;
     key = refl;
     consistent = nodes_consistent terms.tag_of (history old.bus) (history bus) old.engine.made engine.made lines old.engine.geometry old.pads.used kept moves.bus_geometry
-        (subst (λ (l : GeometryView). NodesAreMade l engine.made (history bus).written) geometry
-        (made_blocks (subst (λ (l : GeometryView). NodesAreMade l old.engine.made (history old.bus).written) (sym geometry) kept.nodes)));
+        (rw (← geometry) (made_blocks (rw geometry kept.nodes)));
     holds_last = lines_last terms.tag_of (history old.bus) (history bus) old.engine.made engine.made lines (line_count old.engine.geometry) last;
-    nodes_hold_last = λ goes_on.
-        subst (λ (l : GeometryView). NodesHoldLast l engine.made (history bus).written) geometry
-        (last_blocks (subst (λ (l : GeometryView). NodesHoldLast l old.engine.made (history old.bus).written) (sym geometry) nodes) goes_on);
+    nodes_hold_last = λ goes_on. rw (← geometry) (last_blocks (rw geometry nodes) goes_on);
   }
 
   -- the counters still fit, or there is evidence

@@ -1,5 +1,5 @@
 -- What holds of the nodes where lines alone are touched, and of the lines where nodes alone are.
-use Rattle.std.proofs.Common.{◌≡◌, ◌≢◌, ◌⊎◌, inl, inr, ℕ, cond, nat_lt, List, [], ◌∷◌, ◌++◌, length, Option, None, Contains, refl, ap, sym, ◌∙◌, subst, arith}
+use Rattle.std.proofs.Common.{◌≡◌, ◌≢◌, inl, inr, ℕ, cond, nat_lt, List, [], ◌∷◌, ◌++◌, length, Option, None, Contains, refl, ap, sym, ◌∙◌, arith}
 use Rattle.std.proofs.lemmas.List.Elements.{Contains-append_cases, Contains-append_left}
 use Rattle.sec_base.specs.declared.counter.Counter.{Counter}
 use Rattle.sec_base.specs.declared.message.Message.{Message}
@@ -8,7 +8,7 @@ use Rattle.sec_base.specs.declared.place.Place.{Place}
 use Rattle.sec_base.specs.declared.place.Place.TheVariants.{Line as line_place, Node as node_place}
 use Rattle.sec_base.specs.Geometry.{GeometryView, parent, slot}
 use Rattle.sec_base.specs.LastMessage.{data_pairs, last_node, node_part}
-use Rattle.sec_base.specs.Place.{at_place, zeros_of}
+use Rattle.sec_base.specs.Place.{at_place}
 use Rattle.sec_base.proofs.LastMessages.{last_of_other}
 use Rattle.sec_base.proofs.SamePlaces.{at_place-there}
 use Rattle.bus_model.specs.BusHistory.{BusHistory}
@@ -36,8 +36,7 @@ pub nodes_more : (geometry : GeometryView) (made more : List Message) (written w
     ((level index : ℕ) → written' (node_place level index) ≡ written (node_place level index)) → NodesAreMade geometry (made ++ more) written'
 nodes_more geometry made more written written' was same = record {
   holds = λ level index inside.
-      subst (λ (bytes : List ℕ). (bytes ≡ zeros_of (node_place level index)) ⊎ Contains (made ++ more) (Node level index bytes)) (sym (same level index))
-      (elim (was.holds level index inside) [
+      rw (same level index) (elim (was.holds level index inside) [
         | inl zeros ↦ inl zeros
         | inr there ↦ inr (Contains-append_left made more (Node level index (written (node_place level index))) there)
       ]);
@@ -98,7 +97,7 @@ not_node geometry page at (inr from) = let here : line_place at ≡ node_place f
 
 pub no_line : (more : List Message) (line : ℕ) (counter : Counter) (cipher : List ℕ) → data_pairs more ≡ [] → ¬ Contains more (Line line counter cipher)
 no_line more line counter cipher none listed =
-    let there = subst (λ (pairs : List (ℕ × Counter)). Contains pairs (line, counter)) none (pair_listed more line counter cipher listed) in
+    let there = rw none at (pair_listed more line counter cipher listed) in
     omega (arith, there.1)
 
 pub line_before : (made more : List Message) (line : ℕ) (counter : Counter) (cipher : List ℕ) → data_pairs more ≡ [] →

@@ -16,12 +16,11 @@ use Rattle.bus_model.specs.Access.{Access}
 use Rattle.bus_model.specs.BusHistory.{BusHistory}
 use Rattle.tag_engine.specs.TagEngine.{TagEngineView, tags_of}
 use Rattle.pad_stream.specs.PadEngine.{PadEngineView}
-use Rattle.pad_stream.specs.Pads.{AreRising}
 use Rattle.checked_bus.specs.Makes.{MakesAccesses}
 use Rattle.checked_bus.specs.Steps.{IsAccounted}
 use Rattle.split_counter.specs.CounterBlock.{counter_of, place_of}
 use Rattle.counter_cache.specs.Counters.{CountersView, cached_pages}
-use Rattle.page_reencrypt.specs.Contents.{ArePaged, AreUnskipped, AreWithin, IsSpent, bytes_of, contents_of, counter_in, line_bytes}
+use Rattle.page_reencrypt.specs.Contents.{AreSuccessive, ArePaged, AreWithin, IsSpent, bytes_of, contents_of, counter_in, line_bytes}
 use Rattle.page_reencrypt.specs.LineLengths.{length-line_bytes}
 use Rattle.page_reencrypt.specs.LineMoves.{ReadMoved}
 use Rattle.page_reencrypt.specs.Outside.{CountersSay, IsLineRead, MemoryTerms, OutsideView, outside_of, terms_of}
@@ -111,9 +110,8 @@ module _ {B T : Type 0} (d n : T → List ℕ → List ℕ) (history : B → Bus
   read_rises quiet =
       let was = kept.rise (was_quiet quiet) in
       record {
-        rising = subst AreRising (sym same_used) was.rising;
+        successive = subst AreSuccessive (sym same_used) was.successive;
         within = subst (AreWithin (line_count m.engine.geometry) m.limit) (sym same_used) was.within;
-        unskipped = subst (AreUnskipped (line_count m.engine.geometry)) (sym same_used) was.unskipped;
         paged = λ goes_on. subst (ArePaged (line_count m.engine.geometry)) (sym same_used) (was.paged going);
         spent = λ page is.
             elim (stop_spent m.stopped going (result_err result) page (sym stops ∙ is)) [

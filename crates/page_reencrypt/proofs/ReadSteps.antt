@@ -11,26 +11,25 @@ use Rattle.sec_base.specs.declared.place.Place.TheVariants.{Line as line_place, 
 use Rattle.sec_base.specs.declared.sealed.Sealed.{Sealed}
 use Rattle.sec_base.specs.declared.stop.MemStop.{MemStop}
 use Rattle.sec_base.specs.Evidence.{evidence_place}
-use Rattle.sec_base.specs.Geometry.{GeometryView, line_count, page_of}
-use Rattle.sec_base.specs.LastMessage.{IsFresh, last_node}
+use Rattle.sec_base.specs.Geometry.{GeometryView, page_of}
+use Rattle.sec_base.specs.LastMessage.{last_node}
 use Rattle.sec_base.proofs.Results.{if_ok, was_none}
 use Rattle.bus_model.specs.Access.{Access}
 use Rattle.bus_model.specs.BusHistory.{BusHistory}
-use Rattle.tag_engine.specs.TagEngine.{tags_of}
 use Rattle.pad_stream.specs.Pad.{cipher_of}
 use Rattle.pad_stream.specs.PadEngine.{PadEngineView}
 use Rattle.checked_bus.specs.Steps.{Moves as StepMoves}
 use Rattle.checked_bus.proofs.Makes.{accesses_on}
 use Rattle.checked_bus.proofs.Steps.{moves_on as step_on}
-use Rattle.split_counter.specs.CounterBlock.{CounterBlockView, block_of, counter_of, place_of}
+use Rattle.split_counter.specs.CounterBlock.{CounterBlockView, counter_of, place_of}
 use Rattle.bonsai_tree.specs.Tree.{IsFetchPlace}
-use Rattle.counter_cache.specs.Counters.{AreHad, CountersView, IsCopyOrTagged, cached_block, counters_in}
+use Rattle.counter_cache.specs.Counters.{AreHad, CountersView, counters_in}
 use Rattle.page_reencrypt.specs.Consistency.{IsConsistent}
-use Rattle.page_reencrypt.specs.Contents.{HoldsLast, NodesSay, bytes_of, line_bytes}
-use Rattle.page_reencrypt.specs.Outside.{AreAccounted, CountersFit, IsLineRead, IsReadAt, MemoryTerms, OutsideView, terms_of}
+use Rattle.page_reencrypt.specs.Contents.{bytes_of, line_bytes}
+use Rattle.page_reencrypt.specs.Outside.{CountersFit, IsLineRead, IsReadAt, MemoryTerms, OutsideView, terms_of}
 use Rattle.page_reencrypt.specs.SealedLines.{IsReadUnder}
 use Rattle.page_reencrypt.proofs.CountersHad.{IsGot}
-use Rattle.page_reencrypt.proofs.Nodes.{fits_same, nodes_last, not_node}
+use Rattle.page_reencrypt.proofs.Nodes.{fits_same, not_node}
 use Rattle.page_reencrypt.proofs.Reaching.{HasCome, come_more, path_more, reached_data, shows_on}
 use Rattle.page_reencrypt.proofs.Sealing.{same_terms}
 use Rattle.page_reencrypt.proofs.Unmade.{same_consistent}
@@ -52,20 +51,6 @@ before_node : (level index made_at line : ℕ) (block tag : List ℕ) (before af
 before_node level index made_at line block tag None after found stays is =
     let here : node_place level index ≡ line_place line = found (Collision level index made_at block tag) refl is in absurd (cc)
 before_node level index made_at line block tag (Some evidence) after found stays is = sym (stays evidence refl) ∙ is
-
--- the counters were had, also where more was found since
-had_on : (tag_of : Message → List ℕ) (counters counters' : CountersView) (made made' : List Message) (page : ℕ) (before mid after : Option Evidence)
-    (block : CounterBlockView) → AreHad tag_of counters counters' made page before mid block → made' ≡ made →
-    ((made_at : ℕ) (bytes tag : List ℕ) → after ≡ Some (Collision 0 page made_at bytes tag) → mid ≡ Some (Collision 0 page made_at bytes tag)) →
-    AreHad tag_of counters counters' made' page before after block
-had_on tag_of counters counters' made made' page before mid after block was unmade earlier = record {
-  bytes = was.bytes;
-  had = record {
-    copy_or_tagged = subst (λ (m : List Message). IsCopyOrTagged (cached_block counters page) tag_of counters'.tree m page was.bytes) (sym unmade) was.had.copy_or_tagged;
-    accepted = λ none made_at bytes tag is. was.had.accepted none made_at bytes tag (earlier made_at bytes tag is);
-  };
-  spelled = was.spelled;
-}
 
 module _ {B T : Type 0} (history : B → BusHistory) (moved : B → List Access → B → Type 0) (d n : T → List ℕ → List ℕ) (old : OutsideView B T) (counters : CountersView) (line : ℕ) where
   abbrev terms : MemoryTerms B
@@ -112,24 +97,16 @@ module _ {B T : Type 0} (history : B → BusHistory) (moved : B → List Access 
   module _ (got : OutsideView B T) (counters' : CountersView) (a : IsGot history moved d n line old counters got counters' None) (block : CounterBlockView)
       (had : AreHad terms.tag_of counters counters' got.engine.made (page_of line) old.engine.evidence got.engine.evidence block) (counter : Counter)
       (counter_is : counter ≡ counter_of (place_of line) block) (new : OutsideView B T) (result : Result (List ℕ) MemStop)
-      (r : IsReadAt (terms_of history moved d n got) line counter got new result) where
+      (read : IsReadAt (terms_of history moved d n got) line counter got new result) where
+    r : IsReadAt terms line counter got new result
+    r =
+        subst (λ (t : MemoryTerms B). IsReadAt t line counter got new result)
+        (same_terms history moved d n old got a.reached.node.step.tagger a.reached.node.step.geometry) read
+
     abbrev whole_step : StepMoves (history old.bus) old.engine (history new.bus) new.engine
     whole_step =
         let step = step_on (history old.bus) (history got.bus) (history new.bus) old.engine got.engine new.engine a.reached.node.step r.step in
-        record {
-          bus_geometry = step.bus_geometry;
-          geometry = step.geometry;
-          tagger = step.tagger;
-          more = a.reached.node.step.more;
-          made = r.made ∙ a.reached.node.step.made;
-          evidence = step.evidence;
-          reads = step.reads;
-          accesses = step.accesses;
-          lies = step.lies;
-        }
-
-    got_terms : terms_of history moved d n got ≡ terms
-    got_terms = same_terms history moved d n old got a.reached.node.step.tagger a.reached.node.step.geometry
+        record step { more = a.reached.node.step.more; made = r.made ∙ a.reached.node.step.made }
 
     got_quiet : new.engine.evidence ≡ None → got.engine.evidence ≡ None
     got_quiet quiet = was_none got.engine.evidence new.engine.evidence r.step.evidence quiet
@@ -142,14 +119,10 @@ module _ {B T : Type 0} (history : B → BusHistory) (moved : B → List Access 
 
     read_consistent : IsConsistent terms.tag_of terms.geometry (history new.bus) new.engine.made new.pads.used
     read_consistent =
-        subst (λ (p : PadEngineView). IsConsistent terms.tag_of terms.geometry (history new.bus) new.engine.made p.used) (sym r.pads)
-        (subst (λ (made : List Message). IsConsistent terms.tag_of terms.geometry (history new.bus) made got.pads.used) (sym r.made)
-        (same_consistent terms.tag_of terms.geometry (history got.bus) (history new.bus) got.engine.made got.pads.used a.reached.node.consistent r.step.bus_geometry r.written))
+        rw (r.pads, r.made) (same_consistent terms.tag_of terms.geometry (history got.bus) (history new.bus) got.engine.made got.pads.used a.reached.node.consistent r.step.bus_geometry r.written)
 
     got_bytes : line_bytes got.pads.key got.engine.made line ≡ line_bytes old.pads.key old.engine.made line
-    got_bytes =
-        ap (λ (p : PadEngineView). line_bytes p.key got.engine.made line) a.first.pads
-        ∙ ap (bytes_of old.pads.key line) (reached_data terms old counters got counters' None a.reached line)
+    got_bytes = rw a.first.pads (ap (bytes_of old.pads.key line) (reached_data terms old counters got counters' None a.reached line))
 
     read_come : HasCome terms (page_of line) old counters new counters' (result_err result)
     read_come =
@@ -157,16 +130,13 @@ module _ {B T : Type 0} (history : B → BusHistory) (moved : B → List Access 
         a.come
 
     got_under : IfOk result (IsReadUnder terms.tag_of old.pads.key line (counter_of (place_of line) block) (history new.bus))
-    got_under =
-        subst (λ (c : Counter). IfOk result (IsReadUnder terms.tag_of old.pads.key line c (history new.bus))) counter_is
-        (subst (λ (t : MemoryTerms B). IfOk result (IsReadUnder t.tag_of old.pads.key line counter (history new.bus))) got_terms
-        (subst (λ (p : PadEngineView). IfOk result (IsReadUnder (tags_of d n got.engine) p.key line counter (history new.bus))) a.first.pads r.under))
+    got_under = rw (← counter_is, ← a.first.pads) r.under
 
     pub line_read : ((first second third : B) (before after : List Access) → moved first before second → moved second after third → moved first (before ++ after) third) →
         IsLineRead terms line old counters new counters' result
     line_read moved_on = record {
       trace = accesses_on moved d n moved_on old.bus got.bus new.bus old.engine got.engine new.engine (result_err result)
-          a.reached.node.step.geometry a.reached.node.step.tagger r.step.evidence a.reached.node.trace r.trace;
+          a.reached.node.step.geometry a.reached.node.step.tagger r.step.evidence a.reached.node.trace read.trace;
       step = whole_step;
       pairs = a.reached.node.pairs;
       geometry = a.reached.geometry;
@@ -176,20 +146,13 @@ module _ {B T : Type 0} (history : B → BusHistory) (moved : B → List Access 
       written = λ at. ap (λ (w : Place → List ℕ). w (line_place at)) r.written ∙ a.reached.node.lines.written at;
       alone = λ other differs. r.alone other differs ∙ a.reached.node.lines.reads other;
       consistent = read_consistent;
-      holds_last =
-          subst (λ (made : List Message). HoldsLast terms.tag_of (line_count terms.geometry) made (history new.bus).written) (sym r.made)
-          (subst (HoldsLast terms.tag_of (line_count terms.geometry) got.engine.made) (sym r.written) a.reached.node.holds_last);
-      nodes_hold_last = λ goes_on.
-          nodes_last terms.geometry got.engine.made new.engine.made (history got.bus).written (history new.bus).written (a.reached.node.nodes_hold_last (λ is. cc))
-          (λ level index. ap (λ (w : Place → List ℕ). w (node_place level index)) r.written)
-          (λ level index. ap (λ (made : List Message). last_node level index made) r.made);
+      holds_last = rw (r.made, r.written) a.reached.node.holds_last;
+      nodes_hold_last = λ goes_on. rw (r.made, r.written) (a.reached.node.nodes_hold_last (λ is. cc));
       fits = λ none. read_fits;
       same = λ quiet other. ap (λ (made : List Message). counters_in counters' made other) r.made ∙ a.same (got_quiet quiet) other;
       few = a.come.few;
       copies = read_come.copies;
-      nodes = λ quiet was.
-          subst (λ (p : PadEngineView). NodesSay terms.tag_of terms.geometry p.used new.engine.made) (sym r.pads)
-          (subst (NodesSay terms.tag_of terms.geometry got.pads.used) (sym r.made) (a.reached.nodes (got_quiet quiet) was));
+      nodes = λ quiet was. rw (r.pads, r.made) (a.reached.nodes (got_quiet quiet) was);
       value = λ quiet. if_ok _ _ result (λ bytes is. is ∙ got_bytes) (r.value quiet);
       unread = read_come.unread;
       path = λ quiet none missed.
@@ -197,15 +160,13 @@ module _ {B T : Type 0} (history : B → BusHistory) (moved : B → List Access 
           (a.path refl (got_quiet quiet) missed);
       rose = λ quiet none.
           elim (r.rose (got_quiet quiet) (λ memory. cc)) [
-            | inl was ↦ inl (subst (λ (p : PadEngineView). IsFresh line p.used) a.first.pads was)
+            | inl was ↦ inl (rw (← a.first.pads) was)
             | inr up ↦ let before = a.reached.node.lines.reads line in inr (omega (arith, up, before))
           ];
       fresh = λ quiet was.
-          let same_all = (r.fresh (got_quiet quiet) (subst (λ (p : PadEngineView). IsFresh line p.used) (sym a.first.pads) was)).1 in
+          let same_all = (r.fresh (got_quiet quiet) (rw a.first.pads was)).1 in
           ap (λ (o : OutsideView B T). (history o.bus).reads (line_place line)) same_all ∙ a.reached.node.lines.reads line;
-      accounted = λ was.
-          subst (λ (t : MemoryTerms B). AreAccounted t new (result_err result)) got_terms
-          (r.accounted (subst (λ (t : MemoryTerms B). AreAccounted t got None) (sym got_terms) (a.reached.accounted was)));
+      accounted = λ was. r.accounted (a.reached.accounted was);
       shows = shows_on terms old got new a.reached.node.step r.step a.reached.shows r.shows;
       accepted = λ at counter_used sealed made_count quiet is.
           let still : got.engine.evidence ≡ None =
@@ -215,13 +176,20 @@ module _ {B T : Type 0} (history : B → BusHistory) (moved : B → List Access 
           (answered.0, answered.1, answered.2 ∙ ap (λ (p : PadEngineView). Ok (cipher_of p.key line counter_used sealed.cipher)) a.first.pads);
       accepted_counters = λ made_at bytes tag quiet is.
           let before = before_node 0 (page_of line) made_at line bytes tag got.engine.evidence new.engine.evidence r.found r.step.evidence is in
-          subst (λ (b : CounterBlockView). IfOk result (IsReadUnder terms.tag_of old.pads.key line (counter_of (place_of line) b) (history new.bus)))
-          (had.spelled ∙ ap (λ (b : List ℕ). block_of b) (had.had.accepted quiet made_at bytes tag before)) got_under;
+          rw (← had.had.accepted quiet made_at bytes tag before, ← had.spelled) got_under;
       checked =
           if_ok _ _ result (λ bytes read. record {
             block = block;
-            had = had_on terms.tag_of counters counters' got.engine.made new.engine.made (page_of line) old.engine.evidence got.engine.evidence new.engine.evidence block had r.made
-                (λ made_at block_there tag. before_node 0 (page_of line) made_at line block_there tag got.engine.evidence new.engine.evidence r.found r.step.evidence);
+            had = record {
+              bytes = had.bytes;
+              had = record {
+                copy_or_tagged = rw r.made had.had.copy_or_tagged;
+                accepted = λ none made_at there tag is.
+                    had.had.accepted none made_at there tag
+                    (before_node 0 (page_of line) made_at line there tag got.engine.evidence new.engine.evidence r.found r.step.evidence is);
+              };
+              spelled = had.spelled;
+            };
             read = read;
           }) got_under;
       tampered = λ place is.

@@ -127,7 +127,7 @@ one_access line bytes old new wrote = omega (arith, (wrote_once (line_place line
 
 -- The accesses of a page's lines, one after another: there is one of the written line, and two of any other at most.
 
-module _ (line place start at before mid new : ℕ) (start_is : start ≡ 64 * page_of line) (at_is : at ≡ start + place) (most : mid ≤ before + 2 * place)
+module _ (line place : ℕ) {start at : ℕ} (before mid new : ℕ) (start_is : start ≡ 64 * page_of line) (at_is : at ≡ start + place) (most : mid ≤ before + 2 * place)
     (passed : place_of line < place → mid + 1 ≤ before + 2 * place) (two : new ≤ mid + 2) (own : at ≡ line → new ≤ mid + 1) where
   pub accesses_passed : place_of line < place + 1 → new + 1 ≤ before + 2 * (place + 1)
   accesses_passed within =
@@ -143,23 +143,29 @@ module _ (line place start at before mid new : ℕ) (start_is : start ≡ 64 * p
         | inr early ↦ omega (arith, two, most, below, early)
       ]
 
-module _ {B T : Type 0} (history : B → BusHistory) (moved : B → List Access → B → Type 0) (d n : T → List ℕ → List ℕ) (write : LineWrite) (old : OutsideView B T)
-    (kept : AreConsistent (terms_of history moved d n old) old) (rose : HaveRisen (terms_of history moved d n old) old)
-    (last : HaveLast (terms_of history moved d n old) old) where
+-- Lines are to be encrypted under the counter of a write.
+pub record IsBegun {B T : Type 0} (history : B → BusHistory) (moved : B → List Access → B → Type 0) (d n : T → List ℕ → List ℕ) (write : LineWrite)
+    (old : OutsideView B T) : Type 0 where
+  pub kept : AreConsistent (terms_of history moved d n old) old
+  pub risen : HaveRisen (terms_of history moved d n old) old
+  pub last : HaveLast (terms_of history moved d n old) old
+
+module _ {B T : Type 0} {history : B → BusHistory} {moved : B → List Access → B → Type 0} {d n : T → List ℕ → List ℕ} {write : LineWrite} {old : OutsideView B T}
+    (begun : IsBegun history moved d n write old) where
   abbrev terms : OutsideView B T → MemoryTerms B
   terms = terms_of history moved d n
 
   -- nothing was done yet
   pub sealed_none : ((bus : B) → moved bus [] bus) → AreSealed (terms old) write old [] old None
   sealed_none unmoved =
-      only_read (terms old) write old old None (made_not moved (tags_of d n old.engine) unmoved old.bus old.engine None (λ place is. cc)) (step_not (history old.bus) old.engine) refl (omega arith) refl refl (λ level index. refl) kept rose last
+      only_read (terms old) write old old None (made_not moved (tags_of d n old.engine) unmoved old.bus old.engine None (λ place is. cc)) (step_not (history old.bus) old.engine) refl (omega arith) refl refl (λ level index. refl) begun.kept begun.risen begun.last
       (λ was. was) (λ quiet. inl quiet) (λ place is. absurd (cc)) (λ page is. cc)
 
   -- another line of the page was read
   read_sealed : (at : ℕ) (counter : Counter) (new : OutsideView B T) (result : Result (List ℕ) MemStop) → at ≢ write.line → page_of at ≡ page_of write.line →
       IsReadAt (terms old) at counter old new result → AreSealed (terms old) write old [] new (result_err result)
   read_sealed at counter new result apart of_page r =
-      only_read (terms old) write old new (result_err result) r.trace r.step r.made (omega (arith, r.room)) r.pads r.written r.nodes kept rose last r.accounted r.shows
+      only_read (terms old) write old new (result_err result) r.trace r.step r.made (omega (arith, r.room)) r.pads r.written r.nodes begun.kept begun.risen begun.last r.accounted r.shows
       (λ place is.
       let there = r.tampered place (stop_is result (Tampered place) is) in
       (record { other = at; place_is = there.0; of_page = of_page; apart = apart }, there.1))
@@ -211,7 +217,7 @@ module _ {B T : Type 0} (history : B → BusHistory) (moved : B → List Access 
     held = inr (differs, λ quiet. same ∙ r.value quiet);
   }
 
-  module _ (at : ℕ) (plain : List ℕ) (mid new : OutsideView B T) (previous : Counter) (ready : IsReady at plain mid)
+  module _ {at : ℕ} {plain : List ℕ} {mid : OutsideView B T} (new : OutsideView B T) (previous : Counter) (ready : IsReady at plain mid)
       (inside : at < line_count old.engine.geometry) (had : old.engine.evidence ≡ None → HasCounter old.pads.used at previous × IsBefore previous write.counter)
       (used : new.pads ≡ after_encrypt at write.counter mid.pads)
       (made : new.engine ≡ after_make (Line at write.counter (cipher_of mid.pads.key at write.counter plain)) mid.engine)
@@ -289,56 +295,60 @@ module _ {B T : Type 0} (history : B → BusHistory) (moved : B → List Access 
         (λ place is. cc)
 
 -- A page is encrypted anew line by line: those at the places below this one were sealed.
+pub record AreSealedBelow {B T : Type 0} (history : B → BusHistory) (moved : B → List Access → B → Type 0) (d n : T → List ℕ → List ℕ) (write : LineWrite)
+    (old mid : OutsideView B T) (first place : ℕ) : Type 0 where
+  pub sealed : AreSealed (terms_of history moved d n old) write old (range_with_len first place) mid None
+  pub reread : mid.engine.evidence ≡ None → AreReread write.line (range_with_len first place) old.pads.used (history old.bus) (history mid.bus)
 
-module _ {B T : Type 0} (history : B → BusHistory) (moved : B → List Access → B → Type 0) (d n : T → List ℕ → List ℕ) (write : LineWrite) (old mid : OutsideView B T)
-    (first place : ℕ) (sealed : AreSealed (terms_of history moved d n old) write old (range_with_len first place) mid None)
-    (reread : mid.engine.evidence ≡ None → AreReread write.line (range_with_len first place) old.pads.used (history old.bus) (history mid.bus)) where
+pub below_none : {B T : Type 0} {history : B → BusHistory} {moved : B → List Access → B → Type 0} {d n : T → List ℕ → List ℕ} {write : LineWrite} {old : OutsideView B T} {first : ℕ} →
+    IsBegun history moved d n write old → ((bus : B) → moved bus [] bus) → AreSealedBelow history moved d n write old old first 0
+below_none begun unmoved = record { sealed = sealed_none begun unmoved; reread = λ quiet other listed. absurd (listed_not other listed) }
+
+module _ {B T : Type 0} {history : B → BusHistory} {moved : B → List Access → B → Type 0} {d n : T → List ℕ → List ℕ} {write : LineWrite} {old mid : OutsideView B T}
+    {first place : ℕ} (below : AreSealedBelow history moved d n write old mid first place) where
   mid_terms : terms_of history moved d n mid ≡ terms_of history moved d n old
-  mid_terms = same_terms history moved d n old mid sealed.step.tagger sealed.step.geometry
+  mid_terms = same_terms history moved d n old mid below.sealed.step.tagger below.sealed.step.geometry
 
   pub page_consistent : AreConsistent (terms_of history moved d n mid) mid
-  page_consistent = subst (λ (t : MemoryTerms B). AreConsistent t mid) (sym mid_terms) sealed.consistent
-
-  pub page_risen : HaveRisen (terms_of history moved d n mid) mid
-  page_risen = sealed.risen
+  page_consistent = subst (λ (t : MemoryTerms B). AreConsistent t mid) (sym mid_terms) below.sealed.consistent
 
   pub page_last : HaveLast (terms_of history moved d n mid) mid
-  page_last = subst (λ (t : MemoryTerms B). HaveLast t mid) (sym mid_terms) (sealed.holds_last (λ is. cc))
+  page_last = subst (λ (t : MemoryTerms B). HaveLast t mid) (sym mid_terms) (below.sealed.holds_last (λ is. cc))
 
   range_long : length (range_with_len first place) ≡ place
   range_long = length-range_with_len first place
 
   pub page_room : place < 64 → 64 ≤ old.engine.room → 0 < mid.engine.room
-  page_room below room = omega (arith, below, room, sealed.room, range_long)
+  page_room early room = omega (arith, early, room, below.sealed.room, range_long)
 
   pub page_pads_room : place < 64 → 64 ≤ old.pads.room → 0 < mid.pads.room
-  page_pads_room below room = omega (arith, below, room, sealed.pads_room, range_long)
+  page_pads_room early room = omega (arith, early, room, below.sealed.pads_room, range_long)
 
-  module _ (at : ℕ) (here : at ≡ first + place) where
+  module _ {at : ℕ} (here : at ≡ first + place) where
     pub page_inside : (line : ℕ) → first ≡ 64 * page_of line → place < 64 → line < line_count old.engine.geometry → at < line_count mid.engine.geometry
-    page_inside line start below inside =
-        subst (λ (l : GeometryView). at < line_count l) (sym sealed.step.geometry) (omega (arith, here, start, below, inside))
+    page_inside line start early inside =
+        subst (λ (l : GeometryView). at < line_count l) (sym below.sealed.step.geometry) (omega (arith, here, start, early, inside))
 
     pub page_counter : (line : ℕ) (block : CounterBlockView) (counter : Counter) → first ≡ 64 * page_of line → place < 64 → counter ≡ counter_of place block →
         (old.engine.evidence ≡ None → (other : ℕ) → page_of other ≡ page_of line → HasCounter old.pads.used other (counter_of (place_of other) block)) →
         (old.engine.evidence ≡ None → block.page < write.counter.page) →
         mid.engine.evidence ≡ None → HasCounter mid.pads.used at counter × IsBefore counter write.counter
-    page_counter line block counter start below is had_all later_all quiet =
-        let was_quiet = was_none old.engine.evidence mid.engine.evidence sealed.step.evidence quiet in
+    page_counter line block counter start early is had_all later_all quiet =
+        let was_quiet = was_none old.engine.evidence mid.engine.evidence below.sealed.step.evidence quiet in
         let had = had_all was_quiet in
         let later = later_all was_quiet in
-        let of_page : page_of at ≡ page_of line = omega (arith, here, start, below) in
-        let in_page : place_of at ≡ place = omega (arith, here, start, below) in
+        let of_page : page_of at ≡ page_of line = omega (arith, here, start, early) in
+        let in_page : place_of at ≡ place = omega (arith, here, start, early) in
         let was : HasCounter old.pads.used at counter =
         subst (HasCounter old.pads.used at) (ap (λ (k : ℕ). counter_of k block) in_page ∙ sym is) (had at of_page) in (
-          subst (λ (u : List (ℕ × Counter)). HasCounter u at counter) (sym sealed.entries)
+          subst (λ (u : List (ℕ × Counter)). HasCounter u at counter) (sym below.sealed.entries)
               (counter_unlisted old.pads.used (range_with_len first place) write.counter counter at (not_in_range first place at (omega (arith, here))) was),
           inl (omega (arith, later, ap (λ (c : Counter). c.page) is)),
         )
 
     mid_made : length mid.engine.made ≡ length old.engine.made + place
     mid_made =
-        let made = ap length sealed.step.made ∙ length-append old.engine.made sealed.step.more in omega (arith, made, sealed.as_many, range_long)
+        let made = ap length below.sealed.step.made ∙ length-append old.engine.made below.sealed.step.more in omega (arith, made, below.sealed.as_many, range_long)
 
     -- what was accepted though it was never tagged is one of the lines so far, or the next one
     pub page_accepted : (new : OutsideView B T) → first ≡ 64 * page_of write.line → place < 64 →
@@ -346,31 +356,31 @@ module _ {B T : Type 0} (history : B → BusHistory) (moved : B → List Access 
         Accepts old mid (IsAcceptedBeside write.line (length old.engine.made)) →
         Accepts mid new (λ found made_count. (found ≡ at) × (at ≢ write.line) × (made_count ≡ length mid.engine.made)) →
         Accepts old new (IsAcceptedBeside write.line (length old.engine.made))
-    page_accepted new start below stays before now found under answer made_count quiet is =
+    page_accepted new start early stays before now found under answer made_count quiet is =
         by_evidence mid.engine.evidence
         (λ none.
         let there = now found under answer made_count none is in (
           record {
             other = found;
             place_is = refl;
-            of_page = omega (arith, there.0, here, start, below);
+            of_page = omega (arith, there.0, here, start, early);
             apart = λ same. there.1 (sym there.0 ∙ same);
           },
-          omega (arith, there.0, there.2, here, start, below, mid_made),
+          omega (arith, there.0, there.2, here, start, early, mid_made),
         ))
         (λ evidence some.
         let same : evidence ≡ Forgery found under answer made_count =
         same_Some evidence (Forgery found under answer made_count) (sym (stays evidence some) ∙ is) in
         before found under answer made_count quiet (some ∙ ap (λ (e : Evidence). Some e) same))
 
-    module _ (moved_on : (first second third : B) (before after : List Access) → moved first before second → moved second after third → moved first (before ++ after) third) (new : OutsideView B T) (stop : Option MemStop)
+    module _ (moved_on : (first second third : B) (before after : List Access) → moved first before second → moved second after third → moved first (before ++ after) third) {new : OutsideView B T} {stop : Option MemStop}
         (is : AreSealedInOrder (terms_of history moved d n mid) write mid (at ∷ []) new stop) where
       page_on : AreSealed (terms_of history moved d n old) write old (range_with_len first (place + is.count)) new stop
       page_on =
           let lines = range_part first place is.count is.within in
           subst (λ (xs : List ℕ). AreSealed (terms_of history moved d n old) write old xs new stop)
           (ap (λ (a : ℕ). range_with_len first place ++ take is.count (a ∷ [])) here ∙ lines)
-          (sealed_on (terms_of history moved d n old) write moved_on old mid new (range_with_len first place) (take is.count (at ∷ [])) stop sealed
+          (sealed_on (terms_of history moved d n old) write moved_on old mid new (range_with_len first place) (take is.count (at ∷ [])) stop below.sealed
           (subst (λ (t : MemoryTerms B). AreSealed t write mid (take is.count (at ∷ [])) new stop) mid_terms is.sealed))
 
       page_reread : new.engine.evidence ≡ None →
@@ -379,30 +389,28 @@ module _ {B T : Type 0} (history : B → BusHistory) (moved : B → List Access 
           let lines = range_part first place is.count is.within in
           subst (λ (xs : List ℕ). AreReread write.line xs old.pads.used (history old.bus) (history new.bus))
           (ap (λ (a : ℕ). range_with_len first place ++ take is.count (a ∷ [])) here ∙ lines)
-          (reread_on (terms_of history moved d n old) write old mid new (range_with_len first place) (take is.count (at ∷ [])) stop sealed
+          (reread_on (terms_of history moved d n old) write old mid new (range_with_len first place) (take is.count (at ∷ [])) stop below.sealed
           (subst (λ (t : MemoryTerms B). AreSealed t write mid (take is.count (at ∷ [])) new stop) mid_terms is.sealed)
-          (reread (was_none mid.engine.evidence new.engine.evidence is.sealed.step.evidence quiet)) (is.reread quiet))
+          (below.reread (was_none mid.engine.evidence new.engine.evidence is.sealed.step.evidence quiet)) (is.reread quiet))
 
       -- the next line was sealed too
-      pub page_more : stop ≡ None → AreSealed (terms_of history moved d n old) write old (range_with_len first (place + 1)) new None
-      page_more goes_on =
-          subst (λ (s : Option MemStop). AreSealed (terms_of history moved d n old) write old (range_with_len first (place + 1)) new s) goes_on
-          (subst (λ (k : ℕ). AreSealed (terms_of history moved d n old) write old (range_with_len first (place + k)) new stop) (is.whole goes_on) page_on)
-
-      pub page_more_reread : stop ≡ None → new.engine.evidence ≡ None →
-          AreReread write.line (range_with_len first (place + 1)) old.pads.used (history old.bus) (history new.bus)
-      page_more_reread goes_on quiet =
-          subst (λ (k : ℕ). AreReread write.line (range_with_len first (place + k)) old.pads.used (history old.bus) (history new.bus)) (is.whole goes_on)
-          (page_reread quiet)
+      pub page_more : stop ≡ None → AreSealedBelow history moved d n write old new first (place + 1)
+      page_more goes_on = record {
+        sealed = subst (λ (s : Option MemStop). AreSealed (terms_of history moved d n old) write old (range_with_len first (place + 1)) new s) goes_on
+            (subst (λ (k : ℕ). AreSealed (terms_of history moved d n old) write old (range_with_len first (place + k)) new stop) (is.whole goes_on) page_on);
+        reread = λ quiet.
+            subst (λ (k : ℕ). AreReread write.line (range_with_len first (place + k)) old.pads.used (history old.bus) (history new.bus)) (is.whole goes_on)
+            (page_reread quiet);
+      }
 
       -- it stopped at the next line
       pub page_stopped : (page : ℕ) → first ≡ 64 * page → place < 64 → stop ≢ None →
           AreSealedInOrder (terms_of history moved d n old) write old (page_lines page) new stop
-      page_stopped page start below stopped =
-          let part = sym (ap (λ (f : ℕ). take (place + is.count) (range_with_len f 64)) (sym start) ∙ take_range first 64 (place + is.count) (omega (arith, below, is.within))) in
+      page_stopped page start early stopped =
+          let part = sym (ap (λ (f : ℕ). take (place + is.count) (range_with_len f 64)) (sym start) ∙ take_range first 64 (place + is.count) (omega (arith, early, is.within))) in
           record {
             count = place + is.count;
-            within = omega (arith, below, is.within, length-range_with_len (64 * page) 64);
+            within = omega (arith, early, is.within, length-range_with_len (64 * page) 64);
             sealed = subst (λ (xs : List ℕ). AreSealed (terms_of history moved d n old) write old xs new stop) part page_on;
             reread = λ quiet. subst (λ (xs : List ℕ). AreReread write.line xs old.pads.used (history old.bus) (history new.bus)) part (page_reread quiet);
             whole = λ goes_on. absurd (stopped goes_on);
@@ -410,7 +418,7 @@ module _ {B T : Type 0} (history : B → BusHistory) (moved : B → List Access 
                 let next = only_one at is.count other (is.failed other failed) in
                 let count : place + is.count ≡ place = omega (arith, next.0) in
                 let line : 64 * page + place ≡ other = omega (arith, start, here, next.1) in
-                ap (slice_get (range_with_len (64 * page) 64)) count ∙ nth_in_range (64 * page) 64 place below ∙ ap (λ (l : ℕ). Some l) line;
+                ap (slice_get (range_with_len (64 * page) 64)) count ∙ nth_in_range (64 * page) 64 place early ∙ ap (λ (l : ℕ). Some l) line;
           }
 
   -- all were sealed
@@ -418,4 +426,4 @@ module _ {B T : Type 0} (history : B → BusHistory) (moved : B → List Access 
   page_done page start all =
       subst (λ (xs : List ℕ). AreSealedInOrder (terms_of history moved d n old) write old xs mid None)
       (ap (λ (f : ℕ). range_with_len f place) start ∙ ap (range_with_len (64 * page)) all)
-      (all_in_order (terms_of history moved d n old) write old (range_with_len first place) mid None sealed reread (λ place is. cc))
+      (all_in_order (terms_of history moved d n old) write old (range_with_len first place) mid None below.sealed below.reread (λ place is. cc))

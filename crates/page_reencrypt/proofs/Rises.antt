@@ -1,6 +1,6 @@
 -- What the counters keep over a write of a line under its next counter: with an overflow all lines of its page were sealed,
 -- or where the write stopped a front part of them.
-use Rattle.std.proofs.Common.{◌≡◌, ◌≢◌, ◌⊎◌, inl, inr, ℕ, ◌+◌, ◌<◌, List, [], ◌∷◌, ◌++◌, length, map, take, Option, Some, None, Contains, ap, sym, ◌∙◌, subst, arith}
+use Rattle.std.proofs.Common.{◌≡◌, ◌≢◌, ◌⊎◌, inl, inr, ℕ, ◌+◌, ◌*◌, ◌<◌, List, [], ◌∷◌, ◌++◌, length, map, take, Option, Some, None, Contains, ap, sym, ◌∙◌, subst, arith}
 use Rattle.std.proofs.lemmas.Bool.{cases_eq}
 use Rattle.std.proofs.lemmas.List.{append-nil, take_all}
 use Rattle.sec_base.specs.declared.counter.Counter.{Counter}
@@ -8,13 +8,13 @@ use Rattle.sec_base.specs.declared.stop.MemStop.{MemStop}
 use Rattle.sec_base.specs.declared.stop.MemStop.TheVariants.{Spent}
 use Rattle.sec_base.specs.Geometry.{GeometryView, line_count, page_of}
 use Rattle.split_counter.specs.CounterBlock.{last_counter, next_counter}
-use Rattle.page_reencrypt.specs.Contents.{ArePaged, AreUnskipped, AreWithin, IsSpent, counter_in, lines_encrypted, page_lines}
+use Rattle.page_reencrypt.specs.Contents.{AreSuccessive, ArePaged, AreWithin, IsSpent, counter_in, lines_encrypted, page_lines}
 use Rattle.page_reencrypt.specs.SealedLines.{CountersRise}
-use Rattle.pad_stream.specs.Pads.{AreRising}
 use Rattle.page_reencrypt.specs.Stops.{lasting_stop}
-use Rattle.page_reencrypt.proofs.Entries.{counter_among, counter_beside, counter_seven_bits, encrypted_line, encrypted_of_page, encrypted_page, line_entries_kept, line_entries_listed, next_limited, next_line, next_overflows, next_page, next_page_most, next_seven_bits, next_started, paged_line, paged_page, taken, within_more}
+use Rattle.page_reencrypt.proofs.Successive.{counted_on, full_listed, once_one, once_range}
+use Rattle.page_reencrypt.proofs.Entries.{counter_beside, encrypted_line, encrypted_of_page, encrypted_page, listed_page, next_limited, next_line, next_overflows, next_page, paged_line, paged_page, taken, within_more}
 use Rattle.page_reencrypt.proofs.RisingPairs.{counter_limited}
-use Rattle.page_reencrypt.proofs.Sealing.{listed_one, listed_or_not}
+use Rattle.page_reencrypt.proofs.Sealing.{listed_one}
 
 -- entries of lines under a counter, behind those from before
 abbrev pub used_on : List (ℕ × Counter) → Counter → List ℕ → List (ℕ × Counter)
@@ -40,28 +40,30 @@ module _ (limit lines_count : ℕ) (used : List (ℕ × Counter)) (line : ℕ) (
             subst (λ (xs : List ℕ). ArePaged lines_count (used_on used counter xs)) (sym one) (paged_line counter lines_count used line paged inside same)
       ]
 
-  -- no page counter is skipped, however many of the lines were encrypted
-  pub unskipped_after : (count : ℕ) → AreUnskipped lines_count used → AreUnskipped lines_count (used_on used counter (take count (lines_encrypted counter line)))
-  unskipped_after count was = record {
-    reached = λ other within_too.
-        let lines : List ℕ = take count (lines_encrypted counter line) in
-        let most = was.reached other within_too in
-        elim (listed_or_not lines other) [
-          | inl listed ↦
-              let of_page : page_of line ≡ page_of other =
-              sym (encrypted_of_page counter line other (taken count (lines_encrypted counter line) other listed)) in
-              let now : (counter_in (used_on used counter lines) other).page ≡ counter.page = ap (λ (c : Counter). c.page) (counter_among counter lines used other listed) in
-              let same = paged.one line other inside within_too of_page in
-              let next = next_page_most (counter_in used line) in
-              let more = line_entries_listed counter used lines other listed in
-              omega (arith, now, same, next, most, more)
-          | inr unlisted ↦
-              let now : (counter_in (used_on used counter lines) other).page ≡ (counter_in used other).page =
-              ap (λ (c : Counter). c.page) (counter_beside counter lines used other unlisted) in
-              let more = line_entries_kept counter used lines other in
-              omega (arith, now, most, more)
-        ];
-  }
+  -- the counters are successive, however many of the lines were encrypted
+  pub counted_after : ((other : ℕ) → page_of other ≡ page_of line → other < lines_count) → (count : ℕ) → AreSuccessive used →
+      AreSuccessive (used_on used counter (take count (lines_encrypted counter line)))
+  counted_after page_inside count was =
+      elim (cases_eq (counter_in used line).line 127) [
+        | inl full ↦
+            let all : lines_encrypted counter line ≡ page_lines (page_of line) = encrypted_page counter line ((next_overflows (counter_in used line)).1 full) in
+            subst (λ (xs : List ℕ). AreSuccessive (used_on used counter (take count xs))) (sym all)
+            (counted_on counter (take count (page_lines (page_of line))) used was (once_range (64 * page_of line) 64 count) (λ other listed.
+            let of_page = listed_page (page_of line) other (taken count (page_lines (page_of line)) other listed) in
+            let same = paged.one line other inside (page_inside other of_page) (sym of_page) in
+            inr (
+              line,
+              sym of_page,
+              subst (λ (p : ℕ). Contains used (line, last_counter p)) same (full_listed used line full),
+              next_page (counter_in used line) full ∙ ap (λ (p : ℕ). let c : Counter = record { page = p + 1; line = 0 } in c) same,
+            )))
+        | inr more ↦
+            let one : lines_encrypted counter line ≡ line ∷ [] =
+            encrypted_line counter line (λ new. more ((next_overflows (counter_in used line)).0 new)) in
+            subst (λ (xs : List ℕ). AreSuccessive (used_on used counter (take count xs))) (sym one)
+            (counted_on counter (take count (line ∷ [])) used was (once_one line count) (λ other listed.
+            inl (ap (λ (l : ℕ). next_counter (counter_in used l)) (listed_one line other (taken count (line ∷ []) other listed)))))
+      ]
 
   -- a line whose counters are used up is none of those that are encrypted
   spent_apart : (other : ℕ) → other < lines_count → counter_in used other ≡ last_counter limit → ¬ Contains (lines_encrypted counter line) other
@@ -93,9 +95,8 @@ module _ (limit lines_count : ℕ) (used : List (ℕ × Counter)) (line : ℕ) (
 
   pub within_after : (lines : List ℕ) → AreWithin lines_count limit (used_on used counter lines)
   within_after lines =
-      within_more counter lines_count limit used lines within (next_started (counter_in used line))
+      within_more counter lines_count limit used lines within
       (next_limited limit (counter_in used line) (counter_limited lines_count limit used line inside within) below)
-      (next_seven_bits (counter_in used line) (counter_seven_bits lines_count limit used line within))
 
 -- The last counter that a limit allows, or another one
 
@@ -113,7 +114,7 @@ last_or_not limit counter =
 
 -- A write keeps what holds of the counters, where it stopped so.
 module _ (geometry : GeometryView) (limit : ℕ) (used used' : List (ℕ × Counter)) (stopped stopped' stop : Option MemStop) (line count : ℕ)
-    (was : CountersRise geometry limit used stopped) (going : lasting_stop stopped ≡ None) (inside : line < line_count geometry) (rising : AreRising used')
+    (was : CountersRise geometry limit used stopped) (going : lasting_stop stopped ≡ None) (inside : line < line_count geometry)
     (entries : used' ≡ used_on used (next_counter (counter_in used line)) (take count (lines_encrypted (next_counter (counter_in used line)) line)))
     (whole : stop ≡ None → count ≡ length (lines_encrypted (next_counter (counter_in used line)) line))
     (spent : (page : ℕ) → stop ≡ Some (Spent page) → (page ≡ page_of line) × (count ≡ 0) × (counter_in used line ≡ last_counter limit))
@@ -134,9 +135,8 @@ module _ (geometry : GeometryView) (limit : ℕ) (used used' : List (ℕ × Coun
   rises_spent last =
       let same : used' ≡ used = no_more (used_up last).0 in
       record {
-        rising = rising;
+        successive = subst AreSuccessive (sym same) was.successive;
         within = subst (AreWithin (line_count geometry) limit) (sym same) was.within;
-        unskipped = subst (AreUnskipped (line_count geometry)) (sym same) was.unskipped;
         paged = λ going_on. subst (ArePaged (line_count geometry)) (sym same) (was.paged going);
         spent = λ page is.
             elim (spent_by page is) [
@@ -151,11 +151,11 @@ module _ (geometry : GeometryView) (limit : ℕ) (used used' : List (ℕ × Coun
       let all : List ℕ = lines_encrypted counter line in
       let paged = was.paged going in
       record {
-        rising = rising;
+        successive = subst AreSuccessive (sym entries)
+            (counted_after limit (line_count geometry) used line was.within paged inside below
+            (λ other of_page. omega (arith, inside, of_page)) count was.successive);
         within = subst (AreWithin (line_count geometry) limit) (sym entries)
             (within_after limit (line_count geometry) used line was.within paged inside below (take count all));
-        unskipped = subst (AreUnskipped (line_count geometry)) (sym entries)
-            (unskipped_after limit (line_count geometry) used line was.within paged inside below count was.unskipped);
         paged = λ goes_on.
             elim (lasts goes_on) [
               | inl none ↦

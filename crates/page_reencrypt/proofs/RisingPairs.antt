@@ -1,5 +1,5 @@
 -- Lines and counters that rise, and the messages that they are of.
-use Rattle.std.proofs.Common.{◌≡◌, ◌↔◌, ◌⊎◌, inl, inr, ℕ, zero, suc, ◌+◌, ◌<◌, ◌≤◌, Bool, true, false, cond, nat_eq, nat_lt, List, [], ◌∷◌, length, fold, Option, Some, None, Contains, unwrap_or, refl, ap, sym, ◌∙◌, subst, arith}
+use Rattle.std.proofs.Common.{◌≡◌, ◌⊎◌, inl, inr, ℕ, zero, suc, ◌+◌, ◌<◌, ◌≤◌, Bool, true, false, cond, nat_eq, nat_lt, List, [], ◌∷◌, length, fold, Option, Some, None, Contains, unwrap_or, refl, ap, sym, ◌∙◌, subst, arith}
 use Rattle.std.specs.Option.{option_map, option_or}
 use Rattle.std.specs.List.{filter, slice_get}
 use Rattle.std.proofs.lemmas.Bool.Decides.{Decides-eqb}
@@ -243,19 +243,6 @@ limit_by lines limit used line (Some last) inside within is = within.limited lin
 pub counter_limited : (lines limit : ℕ) (used : List (ℕ × Counter)) (line : ℕ) → line < lines → AreWithin lines limit used →
     (counter_in used line).page ≤ limit
 counter_limited lines limit used line inside within = limit_by lines limit used line (last_pair line used) inside within refl
-
-fresh_by : (lines limit : ℕ) (used : List (ℕ × Counter)) (line : ℕ) (last : Option Counter) → AreWithin lines limit used →
-    last_pair line used ≡ last → unwrap_or last never_written ≡ never_written → last ≡ None
-fresh_by lines limit used line None within is none = refl
-fresh_by lines limit used line (Some last) within is none = absurd (within.started line last (last_listed line used last is) none)
-
--- a line without an entry has the counter of one that was never written, and no other line has
-pub counter_fresh : (lines limit : ℕ) (used : List (ℕ × Counter)) (line : ℕ) → AreWithin lines limit used →
-    (counter_in used line ≡ never_written) ↔ IsFresh line used
-counter_fresh lines limit used line within = (
-  λ none. fresh_by lines limit used line (last_pair line used) within refl none,
-  λ fresh. ap (λ (last : Option Counter). unwrap_or last never_written) fresh,
-)
 
 -- A line's last message
 

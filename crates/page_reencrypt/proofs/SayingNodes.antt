@@ -1,22 +1,18 @@
 -- What was made of nodes says tags of their children and counters of their lines, also where more was made and used.
-use Rattle.std.proofs.Common.{◌≡◌, ◌⊎◌, inl, inr, ℕ, zero, suc, ◌<◌, ◌≤◌, true, List, [], ◌∷◌, ◌++◌, length, Option, Some, None, Contains, IsSome, unwrap_or, refl, ap, sym, ◌∙◌, subst, arith}
-use Rattle.std.specs.Option.{option_map}
+use Rattle.std.proofs.Common.{◌≡◌, ◌⊎◌, inl, inr, ℕ, zero, suc, ◌<◌, ◌≤◌, List, [], ◌∷◌, ◌++◌, length, Option, Some, None, Contains, unwrap_or, refl, ap, arith}
 use Rattle.std.proofs.lemmas.List.Elements.{Contains-append_cases, Contains-append_left}
-use Rattle.sec_base.specs.Geometry.{GeometryView, page_count, page_of}
+use Rattle.sec_base.specs.Geometry.{GeometryView, page_count}
 use Rattle.sec_base.specs.LastMessage.{data_pairs, last_node, last_pair}
 use Rattle.sec_base.specs.declared.counter.Counter.{Counter}
 use Rattle.sec_base.specs.declared.message.Message.{Message}
 use Rattle.sec_base.specs.declared.message.Message.TheVariants.{Line, Node}
-use Rattle.cache_set.specs.declared.way.Way.{Way}
-use Rattle.cache_set.specs.Cache.{way_at}
-use Rattle.cache_set.proofs.Listed.{listed_at}
 use Rattle.bus_model.specs.BusHistory.{BusHistory}
 use Rattle.checked_bus.specs.Steps.{SameLines}
 use Rattle.split_counter.specs.CounterBlock.{block_of, counter_of, place_of}
 use Rattle.bonsai_tree.specs.Node.{CachedNode, current_of}
-use Rattle.bonsai_tree.specs.NodeCache.{copy_of}
 use Rattle.bonsai_tree.proofs.MadeSlots.{slots_on}
-use Rattle.counter_cache.specs.Counters.{CountersView, OnlyLeavingIsMade, cached_block, counters_in}
+use Rattle.counter_cache.specs.Counters.{CountersView, OnlyLeavingIsMade, counters_in}
+use Rattle.counter_cache.proofs.BlockCopies.{held_cached}
 use Rattle.counter_cache.proofs.BlocksMade.{leaving_listed}
 use Rattle.page_reencrypt.specs.Contents.{BlocksSayEntries, NodesSay, counter_in, never_written}
 use Rattle.page_reencrypt.specs.SealedLines.{AreOfPages, IsOfPage}
@@ -61,32 +57,11 @@ module _ (tag_of : Message → List ℕ) (geometry : GeometryView) (used entries
     };
   }
 
--- A block that goes out
-
-some_way : (found : Option Way) (copy : CachedNode) → option_map copy_of found ≡ Some copy → IsSome found
-some_way None copy is = absurd (cc)
-some_way (Some way) copy is = refl
-
--- its page is of the memory
-copied_page : (geometry : GeometryView) (counters : CountersView) (page : ℕ) (copy : CachedNode) → AreOfPages geometry counters → cached_block counters page ≡ Some copy →
-    page < page_count geometry
-copied_page geometry counters page copy pages is = pages page (listed_at counters.blocks page (some_way (way_at counters.blocks page) copy is))
-
 -- the last entry of a line, if it has one
 last_or_none : (used : List (ℕ × Counter)) (line : ℕ) (last : Option Counter) → last_pair line used ≡ last →
     (counter_in used line ≡ never_written) ⊎ Contains used (line, counter_in used line)
 last_or_none used line None is = inl (ap (λ (l : Option Counter). unwrap_or l never_written) is)
-last_or_none used line (Some last) is =
-    inr (subst (λ (l : Option Counter). Contains used (line, unwrap_or l never_written)) (sym is) (last_listed line used last is))
-
--- it says the last entries of its page's lines
-copy_says : (used : List (ℕ × Counter)) (made : List Message) (counters : CountersView) (page line : ℕ) (bytes : List ℕ) →
-    cached_block counters page ≡ Some (record { block = bytes; changed = true }) → IsOfPage used page (counters_in counters made page) → page_of line ≡ page →
-    (counter_of (place_of line) (block_of bytes) ≡ never_written) ⊎ Contains used (line, counter_of (place_of line) (block_of bytes))
-copy_says used made counters page line bytes is says of_page =
-    let here : counters_in counters made page ≡ block_of bytes = ap (λ (c : Option CachedNode). block_of (current_of c (last_node 0 page made))) is in
-    let said : counter_in used line ≡ counter_of (place_of line) (block_of bytes) = says line of_page ∙ ap (counter_of (place_of line)) here in
-    subst (λ (c : Counter). (c ≡ never_written) ⊎ Contains used (line, c)) said (last_or_none used line (last_pair line used) refl)
+last_or_none used line (Some last) is = inr (rw is (last_listed line used last is))
 
 -- so blocks say entries still where counters were had
 pub says_had : (geometry : GeometryView) (used : List (ℕ × Counter)) (counters : CountersView) (page : ℕ) (old new : BusHistory) (made made' : List Message) →
@@ -94,11 +69,12 @@ pub says_had : (geometry : GeometryView) (used : List (ℕ × Counter)) (counter
     OnlyLeavingIsMade counters page made made' → BlocksSayEntries used made → BlocksSayEntries used made'
 says_had geometry used counters page old new made made' lines pages says only was = record {
   said = λ other line block listed of_page.
-      elim (Contains-append_cases made lines.more (Node 0 other block) (subst (λ (m : List Message). Contains m (Node 0 other block)) lines.made_more listed)) [
+      elim (Contains-append_cases made lines.more (Node 0 other block) (rw lines.made_more at listed)) [
         | inl early ↦ was.said other line block early of_page
         | inr late ↦
             let copy = (leaving_listed counters page made made' lines.more other block only lines.made_more late).1 in
-            copy_says used made counters other line block copy
-            (says other (copied_page geometry counters other (record { block = block; changed = true }) pages copy)) of_page
+            let here : counters_in counters made other ≡ block_of block = ap (λ (c : Option CachedNode). block_of (current_of c (last_node 0 other made))) copy in
+            rw (← ap (counter_of (place_of line)) here, ← says other (pages other (held_cached counters other (λ none. cc))) line of_page)
+            (last_or_none used line (last_pair line used) refl)
       ];
 }

@@ -106,17 +106,7 @@ module _ {B T : Type 0} (terms : MemoryTerms B) (write : LineWrite) where
       ((page : ℕ) → stop ≢ Some (Spent page)) → AreSealed terms write old [] new stop
   only_read old new stop trace moves made room pads written unread kept risen last accounted shows tampered unspent = record {
     trace = trace;
-    step = record {
-      bus_geometry = moves.bus_geometry;
-      geometry = moves.geometry;
-      tagger = moves.tagger;
-      more = [];
-      made = made ∙ sym (append-nil old.engine.made);
-      evidence = moves.evidence;
-      reads = moves.reads;
-      accesses = moves.accesses;
-      lies = moves.lies;
-    };
+    step = record moves { more = []; made = made ∙ sym (append-nil old.engine.made) };
     nodes = record {
       reads = unread;
       written = λ level index. ap (λ (w : Place → List ℕ). w (node_place level index)) written;
@@ -177,17 +167,7 @@ module _ {B T : Type 0} (terms : MemoryTerms B) (write : LineWrite) where
     used_is = ap (λ (p : PadEngineView). p.used) used
 
     abbrev step : StepMoves (terms.history old.bus) old.engine (terms.history new.bus) new.engine
-    step = record {
-      bus_geometry = moves.bus_geometry;
-      geometry = moves.geometry;
-      tagger = moves.tagger;
-      more = Line at write.counter cipher ∷ [];
-      made = made_is;
-      evidence = moves.evidence;
-      reads = moves.reads;
-      accesses = moves.accesses;
-      lies = moves.lies;
-    }
+    step = record moves { more = Line at write.counter cipher ∷ []; made = made_is }
 
     last_here : last_data at new.engine.made ≡ Some (write.counter, cipher)
     last_here = ap (last_data at) made_is ∙ last_data-same old.engine.made at write.counter cipher
@@ -354,16 +334,9 @@ module _ {B T : Type 0} (terms : MemoryTerms B) (write : LineWrite) where
       record {
         trace = made_on terms.moved terms.tag_of moved_on first.bus second.bus third.bus first.engine second.engine third.engine stop
             a.step.geometry b.step.evidence a.trace b.trace;
-        step = record {
-          bus_geometry = step.bus_geometry;
-          geometry = step.geometry;
-          tagger = step.tagger;
+        step = record step {
           more = a.step.more ++ b.step.more;
           made = b.step.made ∙ ap (λ (made : List Message). made ++ b.step.more) a.step.made ∙ append_assoc first.engine.made a.step.more b.step.more;
-          evidence = step.evidence;
-          reads = step.reads;
-          accesses = step.accesses;
-          lies = step.lies;
         };
         nodes = record {
           reads = λ level index. b.nodes.reads level index ∙ a.nodes.reads level index;

@@ -17,7 +17,6 @@ use Rattle.split_counter.specs.declared.bumped.Bumped.TheVariants.{Line, Page, S
 use Rattle.split_counter.specs.CounterBlock.{CounterBlockView, bumped, counter_of, place_of}
 use Rattle.counter_cache.specs.Counters.{CountersView, counters_in}
 use Rattle.counter_cache.specs.HadCounters.{HadCounters, IsCounted}
-use Rattle.counter_cache.proofs.Blocks.{counters_of_copy}
 use Rattle.page_reencrypt.specs.Contents.{lines_encrypted, page_lines}
 use Rattle.page_reencrypt.specs.Outside.{DiffersInRoom, OutsideView, with_room}
 use Rattle.page_reencrypt.specs.SealedLines.{IsReadUnder}
@@ -31,22 +30,6 @@ pub counter_by : (counters : CountersView) (made : List Message) (line page plac
     counter ≡ counter_of (place_of line) (counters_in counters made (page_of line))
 counter_by counters made line page place block counter page_is place_is block_is counter_is =
     counter_is ∙ ap (λ (p : ℕ). counter_of p block) place_is ∙ ap (counter_of (place_of line)) (block_is ∙ ap (counters_in counters made) page_is)
-
--- what a write was foreseen to come to, by the block that was answered
-pub foreseen_by : (counters : CountersView) (made : List Message) (line page place limit : ℕ) (block : CounterBlockView) (counter : Counter) (foreseen : Bumped) →
-    page ≡ page_of line → place ≡ place_of line → block ≡ counters_in counters made page → counter ≡ counter_of place block → foreseen ≡ bumped limit counter →
-    foreseen ≡ bumped limit (counter_of (place_of line) (counters_in counters made (page_of line)))
-foreseen_by counters made line page place limit block counter foreseen page_is place_is block_is counter_is foreseen_is =
-    foreseen_is ∙ ap (bumped limit) (counter_by counters made line page place block counter page_is place_is block_is counter_is)
-
--- it is what counting it came to
-pub counted_as_foreseen : (counters counters' : CountersView) (made : List Message) (page place limit : ℕ) (block : CounterBlockView) (counter : Counter)
-    (foreseen outcome : Bumped) → block ≡ counters_in counters made page → counter ≡ counter_of place block → foreseen ≡ bumped limit counter →
-    IsCounted counters counters' page place limit outcome → outcome ≡ foreseen
-counted_as_foreseen counters counters' made page place limit block counter foreseen outcome block_is counter_is foreseen_is is =
-    is.comes
-    ∙ ap (λ (b : CounterBlockView). bumped limit (counter_of place b)) (sym (block_is ∙ counters_of_copy counters made page is.bytes is.copied))
-    ∙ ap (bumped limit) (sym counter_is) ∙ sym foreseen_is
 
 module _ {B T : Type 0} (history : B → BusHistory) (bus_moved : B → List Access → B → Type 0) (tags : TagEngineView T → Message → List ℕ) (line : ℕ) (old : OutsideView B T) (counters : CountersView)
     (between : OutsideView B T) (counters_had : CountersView) where
@@ -68,8 +51,7 @@ module _ {B T : Type 0} (history : B → BusHistory) (bus_moved : B → List Acc
     refused = Some why;
     had = had;
     ends = λ other is. let same : why ≡ other = cc in (refl, stops ∙ ap (λ (s : MemStop). Err s) same);
-    read = subst (λ (a : Result (List ℕ) MemStop). IfOk a (IsReadUnder (tags between.engine) between.pads.key line
-        (counter_of (place_of line) (counters_in counters_had between.engine.made (page_of line))) (history between.bus))) (sym stops) tt;
+    read = rw stops tt;
     trace = λ goes. absurd (cc);
     once = omega arith;
     nodes = λ level index. refl;
@@ -145,10 +127,8 @@ module _ {B T : Type 0} (history : B → BusHistory) (bus_moved : B → List Acc
         spent = λ goes is. absurd (unspent is);
         only_spent = λ page is. let both : Some NoMemory ≡ Some (spent_page page) = sym stops ∙ is in absurd (cc);
         trace = λ goes.
-            subst (λ (b : B). MakesAccesses bus_moved (tags between.engine) between.bus between.engine b new.engine stop) (sym differs.bus)
-            (subst (λ (e : TagEngineView T). MakesAccesses bus_moved (tags between.engine) between.bus between.engine between.bus e stop) (sym differs.engine)
-            (made_roomy bus_moved (tags between.engine) unmoved between.bus between.engine differs.room stop
-            (λ place is. let both : Some NoMemory ≡ Some (Tampered place) = sym stops ∙ is in cc)));
+            rw (differs.bus, differs.engine) (made_roomy bus_moved (tags between.engine) unmoved between.bus between.engine differs.room stop
+            (λ place is. let both : Some NoMemory ≡ Some (Tampered place) = sym stops ∙ is in cc));
         counted = λ goes _. inl (differs, refl, stops);
       }
 
@@ -174,8 +154,7 @@ module _ {B T : Type 0} (history : B → BusHistory) (bus_moved : B → List Acc
         only_spent = λ other is. absurd (going other is);
         trace = λ goes. trace;
         counted = λ goes _. inr (record {
-          counted = subst (λ (p : ℕ). IsCounted counters_had counters' (page_of line) p limit outcome) place_is
-              (subst (λ (p : ℕ). IsCounted counters_had counters' p place limit outcome) page_is counted);
+          counted = rw (← place_is, ← page_is) counted;
           count = count;
           entries = entries;
           messages = messages;

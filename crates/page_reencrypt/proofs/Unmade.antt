@@ -2,14 +2,13 @@
 use Rattle.std.proofs.Common.{◌≡◌, ℕ, List, ap, sym, ◌∙◌, subst}
 use Rattle.sec_base.specs.declared.counter.Counter.{Counter}
 use Rattle.sec_base.specs.declared.message.Message.{Message}
-use Rattle.sec_base.specs.declared.place.Place.{Place}
 use Rattle.sec_base.specs.Geometry.{GeometryView, line_count}
 use Rattle.bus_model.specs.BusHistory.{BusHistory}
 use Rattle.tag_engine.specs.TagEngine.{TagEngineView, tags_of}
 use Rattle.tag_engine.specs.Tag.{engine_tag}
 use Rattle.bonsai_tree.specs.Tree.{NodesAreMade}
 use Rattle.page_reencrypt.specs.Consistency.{IsConsistent}
-use Rattle.page_reencrypt.specs.Contents.{HoldsLast, HoldsSealed}
+use Rattle.page_reencrypt.specs.Contents.{HoldsSealed}
 
 -- the tags of an engine with the same tagger and the same geometry
 pub same_tags : {T : Type 0} (d n : T → List ℕ → List ℕ) (engine engine' : TagEngineView T) → engine'.tagger ≡ engine.tagger → engine'.geometry ≡ engine.geometry →
@@ -29,8 +28,3 @@ same_consistent tag_of geometry history history' made used kept same written = r
   sealed = subst (HoldsSealed tag_of (line_count geometry) made used) (sym written) kept.sealed;
   nodes = subst (NodesAreMade geometry made) (sym written) kept.nodes;
 }
-
--- what was tagged last still stands outside
-pub same_last : (tag_of : Message → List ℕ) (lines : ℕ) (made : List Message) (written written' : Place → List ℕ) →
-    HoldsLast tag_of lines made written → written' ≡ written → HoldsLast tag_of lines made written'
-same_last tag_of lines made written written' was same = subst (HoldsLast tag_of lines made) (sym same) was

@@ -1,5 +1,5 @@
 -- What a write of a line makes of the lines outside.
-use Rattle.std.proofs.Common.{◌≡◌, ◌≢◌, ◌⊎◌, inl, inr, ℕ, ◌+◌, ◌<◌, ◌≤◌, List, [], length, map, take, Option, Some, None, Contains, Result, Err, OnOk, OnErr, refl, ap, sym, ◌∙◌, subst, arith}
+use Rattle.std.proofs.Common.{◌≡◌, ◌≢◌, ◌⊎◌, inl, inr, ℕ, ◌+◌, ◌<◌, ◌≤◌, List, [], map, take, Option, Some, None, Contains, Result, Err, OnOk, OnErr, refl, ap, sym, ◌∙◌, subst, arith}
 use Rattle.std.specs.Option.{option_or}
 use Rattle.std.specs.Result.{result_err}
 use Rattle.std.proofs.lemmas.Bool.{cases_eq}
@@ -16,7 +16,6 @@ use Rattle.sec_base.proofs.Results.{on_success, on_err, was_none}
 use Rattle.bus_model.specs.Access.{Access}
 use Rattle.bus_model.specs.BusHistory.{BusHistory}
 use Rattle.tag_engine.specs.TagEngine.{TagEngineView, tags_of}
-use Rattle.checked_bus.specs.Makes.{MakesAccesses}
 use Rattle.checked_bus.specs.Steps.{IsAccounted}
 use Rattle.split_counter.specs.CounterBlock.{next_counter}
 use Rattle.counter_cache.specs.Counters.{CountersView, cached_pages}
@@ -33,7 +32,7 @@ use Rattle.page_reencrypt.proofs.LineReads.{beside_inside}
 use Rattle.page_reencrypt.proofs.Moves.{moves_not}
 use Rattle.page_reencrypt.proofs.ReadCalls.{lasts_again, lasts_itself}
 use Rattle.page_reencrypt.proofs.Reaching.{came_not, few_not}
-use Rattle.page_reencrypt.proofs.Rises.{rises_after, used_on}
+use Rattle.page_reencrypt.proofs.Rises.{rises_after}
 use Rattle.page_reencrypt.proofs.Sealing.{listed_or_not}
 use Rattle.page_reencrypt.proofs.Unmade.{same_tags}
 
@@ -58,6 +57,15 @@ lasting_write history bus_moved tags bus_unmoved lines line bytes stop lasting =
   accepted = λ at counter sealed made_count quiet is. absurd (cc);
 }
 
+-- what holds after a write, and what it promises
+pub record IsCalled {B T : Type 0} (d n : T → List ℕ → List ℕ) (history : B → BusHistory) (bus_moved : B → List Access → B → Type 0)
+    (old : SealedLinesView B T) (line : ℕ) (bytes : List ℕ) (result : Result (Unit {0}) MemStop) (new : SealedLinesView B T) : Type 0 where
+  pub kept : AreProtected d n history new
+  pub stored : new.engine.evidence ≡ None → OnOk result (contents new ≡ with_line (contents old) line bytes)
+  pub refused : new.engine.evidence ≡ None →
+      OnErr result ((contents new ≡ contents old) ⊎ (contents new ≡ with_line (contents old) line bytes))
+  pub moved : WriteMoved history bus_moved (tags_of d n) old line bytes result new
+
 module _ {B T : Type 0} (d n : T → List ℕ → List ℕ) (history : B → BusHistory) (bus_moved : B → List Access → B → Type 0) (m : SealedLinesView B T) (line : ℕ) (bytes : List ℕ)
     (kept : AreProtected d n history m) (going : lasting_stop m.stopped ≡ None) (inside : line < line_count m.engine.geometry)
     (new : OutsideView B T) (counters : CountersView) (result : Result (Unit {0}) MemStop)
@@ -75,9 +83,7 @@ module _ {B T : Type 0} (d n : T → List ℕ → List ℕ) (history : B → Bus
   write_rises : new.engine.evidence ≡ None → CountersRise m.engine.geometry m.limit new.pads.used stopped
   write_rises quiet =
       rises_after m.engine.geometry m.limit m.pads.used new.pads.used m.stopped stopped (result_err result) line w.count (kept.rise (was_quiet quiet)) going inside
-      (w.risen quiet)
-      (subst (λ (k : Counter). new.pads.used ≡ used_on m.pads.used k (take w.count (lines_encrypted k line))) (w.next quiet) w.entries)
-      (subst (λ (k : Counter). result_err result ≡ None → w.count ≡ length (lines_encrypted k line)) (w.next quiet) w.whole)
+      (rw (← w.next quiet) w.entries) (rw (← w.next quiet) w.whole)
       (λ page is. let spent = w.spent page is in (spent.0, spent.1, spent.2 quiet))
       (λ last. let none = w.used_up quiet last in (none.0, none.1))
       (λ goes_on. stop_lasts m.stopped going (result_err result) (subst (λ (s : Option MemStop). lasting_stop s ≡ None) stops goes_on))
@@ -90,7 +96,7 @@ module _ {B T : Type 0} (d n : T → List ℕ → List ℕ) (history : B → Bus
   had_memory goes_on = stop_memory m.stopped going (result_err result) (λ is. goes_on (stops ∙ is))
 
   -- what held holds after it
-  pub write_kept : AreOfPages m.engine.geometry counters → AreProtected d n history after
+  write_kept : AreOfPages m.engine.geometry counters → AreProtected d n history after
   write_kept pages =
       protected_after d n history bus_moved m new counters stopped w.step.tagger w.step.geometry (w.geometry ∙ kept.tree_geometry)
       pages w.consistent (λ goes_on. w.holds_last (had_memory goes_on))
@@ -115,9 +121,7 @@ module _ {B T : Type 0} (d n : T → List ℕ → List ℕ) (history : B → Bus
       contents_by
       ∙ joined_lines-same (line_bytes m.pads.key new.engine.made) (line_bytes m.pads.key m.engine.made) (line_count m.engine.geometry) (λ other within.
       elim (cases_eq other line) [
-        | inl same ↦
-            subst (λ (l : ℕ). line_bytes m.pads.key new.engine.made l ≡ line_bytes m.pads.key m.engine.made l) (sym same)
-            (ap (bytes_of m.pads.key line) (w.not_yet unlisted))
+        | inl same ↦ rw same (ap (bytes_of m.pads.key line) (w.not_yet unlisted))
         | inr differs ↦ w.others quiet other differs
       ])
 
@@ -128,17 +132,6 @@ module _ {B T : Type 0} (d n : T → List ℕ → List ℕ) (history : B → Bus
   written_too : result_err result ≡ None → Contains part line
   written_too none = subst (λ (xs : List ℕ). Contains xs line) (sym (every none)) (encrypted_itself w.counter line)
 
-  pub write_stored : new.engine.evidence ≡ None → OnOk result (contents after ≡ with_line (contents m) line bytes)
-  write_stored quiet = on_success result (λ none. write_written quiet (written_too none))
-
-  pub write_refused : new.engine.evidence ≡ None → OnErr result ((contents after ≡ contents m) ⊎ (contents after ≡ with_line (contents m) line bytes))
-  write_refused quiet =
-      on_err result
-      (elim (listed_or_not part line) [
-        | inl listed ↦ inr (write_written quiet listed)
-        | inr unlisted ↦ inl (write_same quiet unlisted)
-      ])
-
   -- each line that is encrypted is one of the memory's
   part_inside : (other : ℕ) (found : Counter) → Contains {X = ℕ × Counter} (map (λ at. (at, w.counter)) part) (other, found) → IsLineOf m other
   part_inside other found listed =
@@ -148,8 +141,8 @@ module _ {B T : Type 0} (d n : T → List ℕ → List ℕ) (history : B → Bus
   -- how it moves
   write_moves : Moves history bus_moved (tags_of d n) (IsLineOf m) m after
   write_moves = record {
-    trace = λ going_on. subst (λ (s : Option MemStop). MakesAccesses bus_moved (tags_of d n m.engine) m.bus m.engine new.bus new.engine s) (sym stops)
-        (stop_accesses m.stopped going bus_moved (tags_of d n m.engine) m.bus new.bus m.engine new.engine (result_err result) w.trace);
+    trace = λ going_on.
+        rw stops (stop_accesses m.stopped going bus_moved (tags_of d n m.engine) m.bus new.bus m.engine new.engine (result_err result) w.trace);
     step = w.step;
     key = w.key;
     limit = refl;
@@ -161,8 +154,7 @@ module _ {B T : Type 0} (d n : T → List ℕ → List ℕ) (history : B → Bus
         let before = none_before m.stopped going (tags_of d n m.engine) m.pads.used m.engine.made (history m.bus) m.engine.evidence was in
         subst (λ (t : Message → List ℕ). IsAccounted t new.pads.used new.engine.made (history new.bus) stopped new.engine.evidence)
         (sym (same_tags d n m.engine new.engine w.step.tagger w.step.geometry))
-        (subst (λ (s : Option MemStop). IsAccounted (tags_of d n m.engine) new.pads.used new.engine.made (history new.bus) s new.engine.evidence) (sym stops)
-        (stop_accounted m.stopped going (tags_of d n m.engine) new.pads.used new.engine.made (history new.bus) new.engine.evidence (result_err result)
+        (rw stops (stop_accounted m.stopped going (tags_of d n m.engine) new.pads.used new.engine.made (history new.bus) new.engine.evidence (result_err result)
         (w.accounted before)));
   }
 
@@ -176,20 +168,30 @@ module _ {B T : Type 0} (d n : T → List ℕ → List ℕ) (history : B → Bus
       (hit_overflow : Contains (cached_pages m.counters) (page_of line) → (history new.bus).accesses ≤ (history m.bus).accesses + 127)
       (accepted : Accepts (outside_of m) new (IsAcceptedInWrite line m.pads.used new.pads.used new.engine.made))
       (under : WrittenUnderCounters history bus_moved (tags_of d n) m.limit line (outside_of m) m.counters new counters (result_err result)) where
-    pub write_moved : WriteMoved history bus_moved (tags_of d n) m line bytes result after
-    write_moved = record {
-      moves = write_moves;
-      stopped = stops;
-      few_copies = w.few;
-      copies = w.copies;
-      unread = w.unread;
-      cached = cached;
-      fits = (write_kept pages).fits;
-      outside = λ going. w;
-      under = λ going. under;
-      once = once;
-      few = few;
-      hit = hit;
-      hit_overflow = hit_overflow;
-      accepted = accepted;
+    pub write_called : IsCalled d n history bus_moved m line bytes result after
+    write_called = record {
+      kept = write_kept pages;
+      stored = λ quiet. on_success result (λ none. write_written quiet (written_too none));
+      refused = λ quiet.
+          on_err result
+          (elim (listed_or_not part line) [
+            | inl listed ↦ inr (write_written quiet listed)
+            | inr unlisted ↦ inl (write_same quiet unlisted)
+          ]);
+      moved = record {
+        moves = write_moves;
+        stopped = stops;
+        few_copies = w.few;
+        copies = w.copies;
+        unread = w.unread;
+        cached = cached;
+        fits = (write_kept pages).fits;
+        outside = λ going. w;
+        under = λ going. under;
+        once = once;
+        few = few;
+        hit = hit;
+        hit_overflow = hit_overflow;
+        accepted = accepted;
+      };
     }

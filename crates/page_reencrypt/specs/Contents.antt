@@ -1,6 +1,6 @@
 -- What a memory of lines holds, by the messages that were tagged and the key that lines are encrypted under.
-use Rattle.std.specs.Prelude.{◌==◌, ◌≡◌, ◌≢◌, ◌⊎◌, ℕ, ◌*◌, ◌<◌, ◌≤◌, List, [], ◌∷◌, length, replicate, Option, Some, None, Contains, unwrap_or, if◌then◌else◌}
-use Rattle.std.specs.List.{filter, range_with_len}
+use Rattle.std.specs.Prelude.{◌==◌, ◌≡◌, ◌⊎◌, ℕ, ◌+◌, ◌*◌, ◌<◌, ◌≤◌, List, [], ◌∷◌, length, replicate, take, Option, Some, None, Contains, unwrap_or, if◌then◌else◌}
+use Rattle.std.specs.List.{filter, range_with_len, slice_get}
 use Rattle.sec_base.specs.declared.place.Place.{Place}
 use Rattle.sec_base.specs.declared.place.Place.TheVariants.{Line as line_place}
 use Rattle.sec_base.specs.declared.counter.Counter.{Counter}
@@ -13,7 +13,7 @@ use Rattle.sec_base.specs.Place.{zeros_of}
 use Rattle.sec_base.specs.Lines.{joined_lines}
 use Rattle.pad_stream.specs.Pad.{cipher_of}
 use Rattle.checked_bus.specs.SealedLine.{sealed_line}
-use Rattle.split_counter.specs.CounterBlock.{block_of, counter_of, last_counter, place_of}
+use Rattle.split_counter.specs.CounterBlock.{block_of, counter_of, last_counter, next_counter, place_of}
 use Rattle.bonsai_tree.specs.Tree.{SlotsAreTags}
 
 -- the bytes of a line, by its last message: its ciphertext, decrypted under its counter; zeros where it has none
@@ -45,17 +45,22 @@ page_lines page = range_with_len (LINES_PER_PAGE * page) LINES_PER_PAGE
 abbrev pub lines_encrypted : Counter → ℕ → List ℕ
 lines_encrypted counter line = if counter.line == 0 then page_lines (page_of line) else line ∷ []
 
--- how many entries name the line, and how many name lines of the page
-abbrev pub line_entries : List (ℕ × Counter) → ℕ → ℕ
-line_entries used line = length (filter (λ entry. entry.0 == line) used)
-
 -- how often lines of the page were encrypted: the entries that name one of them
 abbrev pub page_entries : List (ℕ × Counter) → ℕ → ℕ
 page_entries used page = length (filter (λ entry. page_of entry.0 == page) used)
 
--- No page counter was skipped: a line whose page counter is M was itself encrypted M times at least.
-pub record AreUnskipped (lines : ℕ) (used : List (ℕ × Counter)) : Type 0 where
-  pub reached : (line : ℕ) → line < lines → (counter_in used line).page ≤ line_entries used line
+-- A line's next counter behind these entries: the line's own counter is one more; or the page's is one more and the line's own
+-- begins again, where the counter of the line, or of another one of its page, was used up.
+abbrev pub IsRightAfter : List (ℕ × Counter) → ℕ → Counter → Type 0
+IsRightAfter used line later = (later ≡ next_counter (counter_in used line))
+    ⊎ ((other : ℕ) × (page_of other ≡ page_of line) × Contains used (other, last_counter (counter_in used line).page)
+    × (later ≡ record { page = (counter_in used line).page + 1; line = 0 }))
+
+-- The counters of each line are successive: each entry's comes right after that of the line's entry before it, and the first one's
+-- after that of a line that was never written. So they rise, none is skipped, and none is that of a line that was never written.
+pub record AreSuccessive (used : List (ℕ × Counter)) : Type 0 where
+  pub each : (at line : ℕ) (counter : Counter) → slice_get used at ≡ Some (line, counter) →
+      IsRightAfter (take at used) line counter
 
 -- The lines of a page have one page counter, and where it is M, they were encrypted 64 M times at least.
 pub record ArePaged (lines : ℕ) (used : List (ℕ × Counter)) : Type 0 where
@@ -63,12 +68,9 @@ pub record ArePaged (lines : ℕ) (used : List (ℕ × Counter)) : Type 0 where
       (counter_in used line).page ≡ (counter_in used other).page
   pub reached : (line : ℕ) → line < lines → LINES_PER_PAGE * (counter_in used line).page ≤ page_entries used (page_of line)
 
--- Nothing was encrypted under the counter of a line that was never written; a line counter has seven bits; and no line of the
--- memory was encrypted under a page counter past the limit.
+-- No line of the memory was encrypted under a page counter past the limit.
 pub record AreWithin (lines limit : ℕ) (used : List (ℕ × Counter)) : Type 0 where
-  pub started : (line : ℕ) (counter : Counter) → Contains used (line, counter) → counter ≢ never_written
   pub limited : (line : ℕ) (counter : Counter) → line < lines → Contains used (line, counter) → counter.page ≤ limit
-  pub seven_bits : (line : ℕ) (counter : Counter) → Contains used (line, counter) → counter.line < 128
 
 -- A counter block that was made says of each line of its page the counter of a line that was never written, or one that the
 -- line was encrypted under.

@@ -20,7 +20,7 @@ use Rattle.counter_cache.specs.Counters.{cached_pages, counters_in}
 use Rattle.page_reencrypt.specs.Contents.{page_lines}
 use Rattle.page_reencrypt.specs.Outside.{IsWrite, LineWrite, OutsideView, terms_of}
 use Rattle.page_reencrypt.specs.Stops.{lasting_stop}
-use Rattle.page_reencrypt.proofs.NextWrites.{counted_here, counted_up, counter_here, foreseen_here, foreseen_of, is_last, line_unwritten, line_written, mid_counters, mid_inside, mid_kept, mid_last, mid_later, mid_rooms, mid_rose, page_overflows, page_written, refused_reached, say_same, spent_after, spent_early, stopped_early}
+use Rattle.page_reencrypt.proofs.NextWrites.{counted_here, successive, counter_here, foreseen_here, foreseen_of, is_last, line_unwritten, line_written, mid_counters, mid_inside, mid_kept, mid_last, mid_later, mid_rooms, mid_rose, page_overflows, page_written, refused_reached, say_same, spent_early, stopped_early}
 use Rattle.page_reencrypt.proofs.Nodes.{not_node}
 use Rattle.page_reencrypt.proofs.ReadSteps.{before_line}
 use Rattle.page_reencrypt.proofs.CountersHad.{counted_up_by, got_by, got_cached}
@@ -144,43 +144,16 @@ returns-in_err-reserve g c =
       hit_overflow = λ cached. let same = got.idle cached in omega (arith, same, same_accesses);
     }
 
+-- counting comes to what was foreseen
 pub returns-in-Spent-count : goal.returns-in-Spent-count
 returns-in-Spent-count g c =
-    let h = g.B.Bus.history in
-    let m = g.B.Bus.moved in
-    let d = g.T.Tagger.data_tag_of in
-    let n = g.T.Tagger.node_tag_of in
-    let old = c.args.outside.now in
-    let counters = c.args.counters.now in
     let e = c.in_ok-block.ensures in
-    let got = got_by h m d n c.args.line old counters c.get.new.self c.get.new.counters c.page_of-page.result None c.page_of-page.ensures.page c.requires.geometry
+    let got = got_by g.B.Bus.history g.B.Bus.moved g.T.Tagger.data_tag_of g.T.Tagger.node_tag_of c.args.line c.args.outside.now c.args.counters.now c.get.new.self
+    c.get.new.counters c.page_of-page.result None c.page_of-page.ensures.page c.requires.geometry
     c.requires.fits e.step e.had e.pads (e.nodes c.requires.pages c.requires.fits c.requires.current) in
     let had = foreseen_of c.args.limit got c.requires.inside c.page_of-page.ensures.page c.place_of-place.ensures.place e.answer e.is_block c.get-2.ensures.counter
     c.of.ensures.outcome in
-    let same_bus : h c.reserve.new.self.bus ≡ h c.get.new.self.bus =
-    ap (λ (o : OutsideView g.row.B.Denot g.row.T.Denot). h o.bus) c.in_ok-reserve.ensures.taken in
-    let same_geometry : c.reserve.new.self.engine.geometry ≡ old.engine.geometry =
-    ap (λ (o : OutsideView g.row.B.Denot g.row.T.Denot). o.engine.geometry) c.in_ok-reserve.ensures.taken ∙ e.step.step.geometry in
-    let same_accesses = ap (λ (t : BusHistory). t.accesses) same_bus in
-    let u = counted_up_by g.B.Bus.history g.B.Bus.moved g.T.Tagger.data_tag_of g.T.Tagger.node_tag_of c.reserve.new.self c.get.new.counters c.count.new.self c.page_of-page.result c.place_of-place.result c.args.limit c.count.result c.count.ensures.counted e.had.copies c.count.ensures.copies in
-    let bumped_evidence : c.reserve.new.self.engine.evidence ≡ c.get.new.self.engine.evidence = ap (λ (o : OutsideView g.row.B.Denot g.row.T.Denot). o.engine.evidence) c.in_ok-reserve.ensures.taken in
-    let up = counted_up c.requires.current had g.met.B.Bus.unmoved g.met.B.Bus.moved_on c.reserve.new.self c.count.new.self
-    c.count.result c.in_ok-reserve.ensures.taken u in
-    record {
-      written = spent_after c.requires.current had g.met.B.Bus.unmoved g.met.B.Bus.moved_on up c.args.bytes.now c.requires.risen c.in-Spent-count.is c.in_default.not-Spent;
-      under = absurd (c.in_default.not-Spent (sym (counted_here c.requires.current had c.count.ensures.counted) ∙ c.in-Spent-count.is));
-      cached = λ going. subst (λ (p : ℕ). Contains (cached_pages c.count.new.self) p) c.page_of-page.ensures.page u.cached;
-      pages = u.inside old.engine.geometry e.pages;
-      accepted = λ at under sealed made_count quiet is.
-          not_node old.engine.geometry (page_of c.args.line) at (got.found (Forgery at under sealed made_count) quiet (sym bumped_evidence ∙ is));
-      once = λ quiet short. (
-        omega (arith, got.once, same_accesses, same_geometry),
-        λ other. ap (λ (t : BusHistory). t.reads (line_place other)) same_bus ∙ e.step.lines.reads other,
-      );
-      few = omega (arith, got.once, same_accesses, same_geometry);
-      hit = λ cached quiet short. let same = got.idle cached in omega (arith, same, same_accesses);
-      hit_overflow = λ cached. let same = got.idle cached in omega (arith, same, same_accesses);
-    }
+    absurd (c.in_default.not-Spent (sym (counted_here c.requires.current had c.count.ensures.counted) ∙ c.in-Spent-count.is))
 
 pub returns-in_err-seal-in-Line : goal.returns-in_err-seal-in-Line
 returns-in_err-seal-in-Line g c =
@@ -203,7 +176,7 @@ returns-in_err-seal-in-Line g c =
     let same_accesses = ap (λ (t : BusHistory). t.accesses) same_bus in
     let u = counted_up_by g.B.Bus.history g.B.Bus.moved g.T.Tagger.data_tag_of g.T.Tagger.node_tag_of c.reserve.new.self c.get.new.counters c.count.new.self c.page_of-page.result c.place_of-place.result c.args.limit c.count.result c.count.ensures.counted e.had.copies c.count.ensures.copies in
     let bumped_evidence : c.reserve.new.self.engine.evidence ≡ c.get.new.self.engine.evidence = ap (λ (o : OutsideView g.row.B.Denot g.row.T.Denot). o.engine.evidence) c.in_ok-reserve.ensures.taken in
-    let up = counted_up c.requires.current had g.met.B.Bus.unmoved g.met.B.Bus.moved_on c.reserve.new.self c.count.new.self
+    let up = successive c.requires.current had g.met.B.Bus.unmoved g.met.B.Bus.moved_on c.reserve.new.self c.count.new.self
     c.count.result c.in_ok-reserve.ensures.taken u in
     let s = c.seal.ensures in
     let same_last : h c.seal.new.self.bus ≡ h c.reserve.new.self.bus = c.in_err-seal-in-Line.ensures.err in
@@ -259,14 +232,14 @@ returns-in_ok-seal-in-Line g c =
     let same_accesses = ap (λ (t : BusHistory). t.accesses) same_bus in
     let u = counted_up_by g.B.Bus.history g.B.Bus.moved g.T.Tagger.data_tag_of g.T.Tagger.node_tag_of c.reserve.new.self c.get.new.counters c.count.new.self c.page_of-page.result c.place_of-place.result c.args.limit c.count.result c.count.ensures.counted e.had.copies c.count.ensures.copies in
     let bumped_evidence : c.reserve.new.self.engine.evidence ≡ c.get.new.self.engine.evidence = ap (λ (o : OutsideView g.row.B.Denot g.row.T.Denot). o.engine.evidence) c.in_ok-reserve.ensures.taken in
-    let up = counted_up c.requires.current had g.met.B.Bus.unmoved g.met.B.Bus.moved_on c.reserve.new.self c.count.new.self
+    let up = successive c.requires.current had g.met.B.Bus.unmoved g.met.B.Bus.moved_on c.reserve.new.self c.count.new.self
     c.count.result c.in_ok-reserve.ensures.taken u in
     let s = c.seal.ensures in
     let wrote = c.in_ok-seal-in-Line.ensures.ok in
     let put = sealed_line (tags_of d n c.reserve.new.self.engine) c.args.line c.in-Line.counter
     (cipher_of c.reserve.new.self.pads.key c.args.line c.in-Line.counter c.args.bytes.now) in
     let one = wrote_once (line_place c.args.line) put (h c.reserve.new.self.bus) (h c.seal.new.self.bus) wrote in
-    let last_accesses = one_access c.args.line put (h c.reserve.new.self.bus) (h c.seal.new.self.bus) wrote in
+    let last_accesses = one_access _ _ _ _ wrote in
     record {
       written = line_written c.requires.current had g.met.B.Bus.unmoved g.met.B.Bus.moved_on up c.requires.started c.args.bytes.now c.in-Line.counter c.in-Line.is
           (c.count.ensures.line c.in-Line.counter c.in-Line.is).written c.of.ensures.line c.seal.new.self s.used s.made s.undone s.moves s.honest
@@ -309,13 +282,8 @@ reencrypt_page-requires g c =
     c.requires.fits e.step e.had e.pads (e.nodes c.requires.pages c.requires.fits c.requires.current) in
     let had = foreseen_of c.args.limit got c.requires.inside c.page_of-page.ensures.page c.place_of-place.ensures.place e.answer e.is_block c.get-2.ensures.counter
     c.of.ensures.outcome in
-    let same_bus : h c.reserve.new.self.bus ≡ h c.get.new.self.bus =
-    ap (λ (o : OutsideView g.row.B.Denot g.row.T.Denot). h o.bus) c.in_ok-reserve.ensures.taken in
-    let same_geometry : c.reserve.new.self.engine.geometry ≡ old.engine.geometry =
-    ap (λ (o : OutsideView g.row.B.Denot g.row.T.Denot). o.engine.geometry) c.in_ok-reserve.ensures.taken ∙ e.step.step.geometry in
-    let same_accesses = ap (λ (t : BusHistory). t.accesses) same_bus in
     let u = counted_up_by g.B.Bus.history g.B.Bus.moved g.T.Tagger.data_tag_of g.T.Tagger.node_tag_of c.reserve.new.self c.get.new.counters c.count.new.self c.page_of-page.result c.place_of-place.result c.args.limit c.count.result c.count.ensures.counted e.had.copies c.count.ensures.copies in
-    let up = counted_up c.requires.current had g.met.B.Bus.unmoved g.met.B.Bus.moved_on c.reserve.new.self c.count.new.self
+    let up = successive c.requires.current had g.met.B.Bus.unmoved g.met.B.Bus.moved_on c.reserve.new.self c.count.new.self
     c.count.result c.in_ok-reserve.ensures.taken u in
     let rooms = mid_rooms c.requires.current had g.met.B.Bus.unmoved g.met.B.Bus.moved_on up in
     record {
@@ -351,7 +319,7 @@ returns-in-Page g c =
     let bumped_evidence : c.reserve.new.self.engine.evidence ≡ c.get.new.self.engine.evidence = ap (λ (o : OutsideView g.row.B.Denot g.row.T.Denot). o.engine.evidence) c.in_ok-reserve.ensures.taken in
     let bumped_used = ap (λ (o : OutsideView g.row.B.Denot g.row.T.Denot). length o.pads.used) c.in_ok-reserve.ensures.taken ∙ ap length e.step.used in
     let write : LineWrite = record { line = c.args.line; bytes = c.args.bytes.now; counter = record { page = c.in-Page.raised; line = 0 } } in
-    let up = counted_up c.requires.current had g.met.B.Bus.unmoved g.met.B.Bus.moved_on c.reserve.new.self c.count.new.self
+    let up = successive c.requires.current had g.met.B.Bus.unmoved g.met.B.Bus.moved_on c.reserve.new.self c.count.new.self
     c.count.result c.in_ok-reserve.ensures.taken u in
     let p = c.reencrypt_page.ensures in
     record {

@@ -17,10 +17,4 @@ invariant_of-result g c =
 
 pub returns-clause-fits : goal.returns-clause-fits
 returns-clause-fits g c =
-    let b = c.in-Ok-boot.ensures in
-    let new = b.tags ∙ c.in-Ok.ensures in
-    (boot_protected g.T.Tagger.data_tag_of g.T.Tagger.node_tag_of g.B.Bus.history g.B.Bus.moved c.boot.new.bus c.args.tagger c.args.enc_key.now
-    c.args.geometry c.args.page_limit c.boot.new.tags c.in-Ok-new.pads c.in-Ok-boot.counters new c.in-Ok-new.ensures.fresh
-    (ap (λ bus. (g.B.Bus.history bus).geometry) b.bus ∙ c.requires.geometry)
-    (subst (λ bus. NothingWritten (g.B.Bus.history bus)) (sym b.bus) c.requires.nothing_written) b.geometry b.holds b.zeros b.empty).fits refl
-    (ap (λ (e : TagEngineView g.row.T.Denot). e.evidence) new)
+    (invariant_of-result g c).1.fits refl (ap (λ (e : TagEngineView g.row.T.Denot). e.evidence) (c.in-Ok-boot.ensures.tags ∙ c.in-Ok.ensures))
