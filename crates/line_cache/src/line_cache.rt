@@ -6,7 +6,7 @@ ghost use Rattle.sec_base.specs.Geometry.{line_of};
 ghost use Rattle.sec_base.specs.Width.{width_bytes, number_at, with_number};
 ghost use Rattle.cache_set.specs.Cache.{AreApart, IsLatest, copy_at, way_at};
 ghost use Rattle.cache_set.specs.Bringing.{brought, leaving, with_changed};
-ghost use Rattle.line_cache.specs.LineCache.{AreClean, IsMissed, IsMoved, IsStep, IsStoppedMiss, contents, held_lines, most_held, new_lines, stopped};
+ghost use Rattle.line_cache.specs.LineCache.{AreClean, AreCopies, IsMissed, IsMoved, IsStep, IsStoppedMiss, contents, held_lines, most_held, new_lines, stopped};
 
 use crate::fetch::fetch;
 use cache_set::Cache;
@@ -168,6 +168,7 @@ impl<S: LineStore> Ram for LineCache<S> {
         ensures extent { 64 * S.extent self.new.store ≡ 64 * S.extent self.old.store }
         ensures lost { S.sound self.new.store → S.sound self.old.store }
         ensures moved { IsMoved S.read_moved S.write_moved self.old (line_of addr ∷ []) self.new }
+        ensures copies { AreCopies (S.extent self.old.store) self.old.lines }
 
         // A line that is held is not looked up in the store. A stop is what the store answered.
         ensures hit { Contains (held_lines self.old) (line_of addr) → IsOk result
@@ -226,6 +227,7 @@ impl<S: LineStore> Ram for LineCache<S> {
         ensures extent { 64 * S.extent self.new.store ≡ 64 * S.extent self.old.store }
         ensures lost { S.sound self.new.store → S.sound self.old.store }
         ensures moved { IsMoved S.read_moved S.write_moved self.old (line_of addr ∷ []) self.new }
+        ensures copies { AreCopies (S.extent self.old.store) self.old.lines }
 
         // A store that stops changes no byte.
         ensures unchanged { stopped S.stopped self.old ≡ None → S.sound self.new.store →

@@ -1,14 +1,15 @@
 -- What a load and a store make of a memory.
-use Rattle.std.proofs.Common.{◌≡◌, ◌⊎◌, inl, inr, ℕ, zero, suc, ◌+◌, ◌/◌, ◌≤◌, List, [], ◌∷◌, ◌++◌, length, map, take, Option, Some, None, Result, Ok, Err, IsOk, IsSome, Contains, refl, ap, sym, ◌∙◌, subst, arith, ◌≢◌}
+use Rattle.std.proofs.Common.{◌≡◌, ◌⊎◌, inl, inr, ℕ, zero, suc, ◌+◌, ◌/◌, ◌≤◌, List, [], ◌∷◌, ◌++◌, length, map, take, Option, Some, None, Result, Ok, Err, IsOk, IsSome, Contains, OnOk, OnErr, Bool, true, false, cond, refl, ap, sym, ◌∙◌, subst, arith, ◌≢◌}
 use Rattle.std.specs.Option.{option_or}
 use Rattle.std.specs.Result.{result_err}
 use Rattle.std.proofs.Math.Nat.{div-one, pow-zero}
 use Rattle.std.proofs.lemmas.Bool.{true≢false}
 use Rattle.std.proofs.lemmas.List.{append-nil, take_all}
-use Rattle.std.proofs.lemmas.Option.{same_Some}
+use Rattle.std.proofs.lemmas.Option.{none-some, same_Some}
 use Rattle.sec_base.specs.Count.{Rose, RoseBy}
 use Rattle.sec_base.specs.Geometry.{GeometryView, arity, page_of}
 use Rattle.sec_base.specs.LastMessage.{data_pairs, last_data}
+use Rattle.sec_base.specs.Lines.{line_at}
 use Rattle.sec_base.specs.declared.counter.Counter.{Counter}
 use Rattle.sec_base.specs.declared.message.Message.{Message}
 use Rattle.sec_base.specs.declared.place.Place.{Place}
@@ -36,21 +37,29 @@ use Rattle.counter_cache.proofs.Havings.{no_copy_below, path_on}
 use Rattle.page_reencrypt.proofs.Moves.{moves_not, own_moves_after, own_moves_on}
 use Rattle.page_reencrypt.proofs.Nodes.{not_node}
 use Rattle.page_reencrypt.proofs.Sealing.{listed_or_not}
+use Rattle.page_reencrypt.proofs.WrittenMessages.{no_line_at, written_says}
 use Rattle.cache_set.specs.declared.way.Way.{Way}
-use Rattle.cache_set.specs.Cache.{copy_at, places, way_at}
+use Rattle.cache_set.specs.Cache.{copy_at, places, victim_for, way_at}
 use Rattle.cache_set.proofs.Listed.{listed_at}
-use Rattle.cache_set.specs.Bringing.{leaving}
-use Rattle.line_cache.specs.LineCache.{IsMiss, IsMissed, IsStep, LineCacheView, most_held}
+use Rattle.cache_set.specs.Bringing.{if_changed, leaving}
+use Rattle.cache_set.proofs.Bringing.{goes_for_none, goes_there}
+use Rattle.line_cache.specs.LineCache.{AreCopies, IsMiss, IsMissed, IsStep, LineCacheView, line_sets, most_held}
 use Rattle.line_cache.specs.LineCache.{IsMoved as IsChain}
+use Rattle.line_cache.proofs.Lines.{over_held}
 use Rattle.line_cache.proofs.Steps.{way_of_copy}
+use Rattle.secure_memory.specs.Encrypted.{EncryptsContents}
 use Rattle.secure_memory.specs.LineCall.{IsLineCall, IsWrittenAnew, IsWrittenInPart}
-use Rattle.secure_memory.specs.SecureRam.{SecureRamView, CopiesHad, IsMoved, IsQuiet, LineHad, PageHad, PageRead, cached_pages, held_lines, geometry, stopped}
-use Rattle.secure_memory.specs.Moving.{copies_not, copies_on, on_chip_of_line, on_chip_of_page}
+use Rattle.secure_memory.specs.SecureRam.{SecureRamView, CopiesHad, IsMoved, IsQuiet, LineHad, PageHad, PageRead, cached_pages, contents, held_lines, geometry, stopped}
+use Rattle.secure_memory.specs.Moving.{copies_not, copies_on, encrypts_both, encrypts_none, on_chip_of_line, on_chip_of_page}
 
 -- Answers and stops
 
 ok_stays : {A : Type 0} (answer : Result A MemStop) (before : Option MemStop) → result_err answer ≡ None → before ≡ None → option_or (result_err answer) before ≡ None
 ok_stays answer before ok none = ap (λ (o : Option MemStop). option_or o before) ok ∙ none
+
+pub done_or_not : {P Q : Type 0} (answer : Result (Unit {0}) MemStop) → OnOk answer P → OnErr answer Q → P ⊎ Q
+done_or_not (Ok value) done refused = inl done
+done_or_not (Err stop) done refused = inr refused
 
 only_line : (line other : ℕ) → Contains (line ∷ []) other → other ≡ line
 only_line line other (zero, below, at) = sym at
@@ -404,6 +413,51 @@ module _ {B T : Type 0} (history : B → BusHistory) (bus_moved : B → List Acc
     missed_fits (Some way) answer (inl (stop, is, w)) = w.fits
     missed_fits (Some way) answer (inr (mid, w, r)) = r.fits
 
+    -- What the messages say, where the copy that goes out is what its line has, and no other line changes
+
+    abbrev Encrypts : SealedLinesView B T → SealedLinesView B T → Type 0
+    Encrypts first second =
+        EncryptsContents (lines.enc_key old.lines) (made second) (length (made first)) (length (made second)) (line ∷ []) (contents old) (contents new)
+
+    module _ (stays : (other : ℕ) → other ≢ line → line_at (contents new) other ≡ line_at (contents old) other) where
+      read_encrypts : (first second : SealedLinesView B T) (more : List Message) → made second ≡ made first ++ more → data_pairs more ≡ [] → Encrypts first second
+      read_encrypts first second more is none = record {
+        says = λ at other counter cipher low high there. absurd (no_line_at (made first) more (made second) at other counter cipher is none low there);
+      }
+
+      written_encrypts : (mid : SealedLinesView B T) (way : Way) (answer : Result (Unit {0}) MemStop) →
+          WriteMoved history bus_moved tags old.lines way.place way.copy answer mid → lines.IsQuiet mid →
+          (line_at (contents old) way.place ≡ way.copy) × (way.place ≢ line) → Encrypts old.lines mid
+      written_encrypts mid way answer w quiet goes = record {
+        says = λ at other counter cipher low high there.
+            elim (written_says (terms_in history bus_moved tags old.lines) old.lines.limit way.place way.copy (outside_of old.lines) old.lines.counters
+            (outside_of mid) mid.counters (result_err answer) (w.outside (ap lasting_stop going)) quiet at other counter cipher low there) [
+              | inl own ↦
+                  let had = own.1 ∙ sym goes.0 ∙ ap (line_at (contents old)) (sym own.0) in
+                  inr (record {
+                    sooner = [];
+                    later = line ∷ [];
+                    all = refl;
+                    before = λ none. had;
+                    after = λ none. had ∙ sym (stays other (λ same. goes.1 (sym own.0 ∙ same)));
+                  })
+              | inr last ↦ inl last
+            ];
+      }
+
+      missed_encrypts : (out : Option Way) (answer : Result (List ℕ) MemStop) →
+          IsMiss (ReadMoved history bus_moved tags) (WriteMoved history bus_moved tags) out old.lines line answer new.lines → IsQuiet new →
+          ((way : Way) → out ≡ Some way → (line_at (contents old) way.place ≡ way.copy) × (way.place ≢ line)) → Encrypts old.lines new.lines
+      missed_encrypts None answer r quiet goes =
+          let seen = r.outside (ap lasting_stop going) in
+          read_encrypts old.lines new.lines seen.step.more seen.step.made seen.pairs
+      missed_encrypts (Some way) answer (inl (stop, is, w)) quiet goes = written_encrypts new.lines way (Err stop) w quiet (goes way refl)
+      missed_encrypts (Some way) answer (inr (mid, w, r)) quiet goes =
+          let came = r.outside (ap lasting_stop (w.stopped ∙ going)) in
+          encrypts_both (lines.enc_key old.lines) (made mid) came.step.more (made new.lines) (length (made old.lines)) (line ∷ []) (contents old) (contents new) came.step.made
+          (written_encrypts mid way (Ok tt) w (was_none mid.engine.evidence new.lines.engine.evidence r.moves.step.evidence quiet) (goes way refl))
+          (read_encrypts mid new.lines came.step.more came.step.made came.pairs)
+
     module _ (out : Option Way) (stop : Option MemStop) (called : IsLineCall history old line out stop new) (stops : stopped new ≡ stop) where
       page_had : stopped new ≡ None → IsQuiet new → PageHad history old new (page_of line)
       page_had still quiet =
@@ -421,8 +475,9 @@ module _ {B T : Type 0} (history : B → BusHistory) (bus_moved : B → List Acc
       pub call_moved : Moves history bus_moved tags (IsLineOf old.lines) old.lines new.lines → CopiesHad history old new →
           (IsQuiet new → UnmadeAreUnread (history old.lines.bus) (made new.lines) (history new.lines.bus)) →
           (FitsUnlessStopped history bus_moved tags old.lines → FitsUnlessStopped history bus_moved tags new.lines) → length (held_lines new) ≤ most_held →
-          IsMoved history bus_moved tags old (line ∷ []) new
-      call_moved moves copies unread fits few = record {
+          (IsQuiet new → (other : ℕ) → other ≢ line → line_at (contents new) other ≡ line_at (contents old) other) →
+          (IsQuiet new → Encrypts old.lines new.lines) → IsMoved history bus_moved tags old (line ∷ []) new
+      call_moved moves copies unread fits few same encrypts = record {
         moves = moves;
         stays = λ stop is. absurd (cc);
         few = λ was. few;
@@ -437,6 +492,8 @@ module _ {B T : Type 0} (history : B → BusHistory) (bus_moved : B → List Acc
                 | inr same ↦ subst (λ (l : ℕ). LineHad history old new l × PageHad history old new (page_of l)) (sym same) (line_had still quiet)
               ];
         };
+        encrypts = encrypts;
+        untouched = λ quiet other none. same quiet other (λ is. none (zero, omega arith, sym is));
       }
 
   -- a memory that answers its stop again
@@ -450,11 +507,21 @@ module _ {B T : Type 0} (history : B → BusHistory) (bus_moved : B → List Acc
     unread = λ quiet level index none. refl;
     fits = λ fits. fits;
     had = λ going quiet. absurd (cc);
+    encrypts = λ quiet. encrypts_none (lines.enc_key memory.lines) (made memory.lines) (length (made memory.lines)) listed (contents memory) (contents memory);
+    untouched = λ quiet line none. refl;
   }
 
 -- What is seen of a cache of the lines outside
 abbrev pub memory_of : {B T : Type 0} → LineCacheView (SealedLinesView B T) → SecureRamView B T
 memory_of cache = record { lines = cache.store; ways = cache.lines }
+
+changed_if : (b : Bool) (found way : Way) → cond b (Some found) None ≡ Some way → found ≡ way
+changed_if true found way e = same_Some found way e
+changed_if false found way e = absurd (cc)
+
+changed_is : (found : Option Way) (way : Way) → if_changed found ≡ Some way → found ≡ Some way
+changed_is None way e = absurd (cc)
+changed_is (Some found) way e = ap Some (changed_if found.changed found way e)
 
 -- A call of the cache by a line
 module _ {B T : Type 0} (history : B → BusHistory) (bus_moved : B → List Access → B → Type 0) (tags : TagEngineView T → Message → List ℕ)
@@ -499,11 +566,22 @@ module _ {B T : Type 0} (history : B → BusHistory) (bus_moved : B → List Acc
     | inr out ↦ let m = missed out in missed_fits history bus_moved tags old new line going step.held (leaving cache.lines line) m.answer m.miss
   ]
 
-  pub moved_so : ((bus : B) → bus_moved bus [] bus) →
+  -- the copy that goes out is what its line has
+  goes : AreCopies (lines.lines_of cache.store) cache.lines → (way : Way) → leaving cache.lines line ≡ Some way →
+      (line_at (contents old) way.place ≡ way.copy) × (way.place ≢ line)
+  goes copies way leaves =
+      let is : victim_for cache.lines line ≡ Some way = changed_is (victim_for cache.lines line) way leaves in
+      let there : way_at cache.lines way.place ≡ Some way = goes_there line_sets cache.lines copies.cache line way is in (
+        over_held (lines.contents cache.store) (lines.lines_of cache.store) cache.lines way.place way (copies.inside way.place way there) there (copies.whole way.place way there),
+        λ same. none-some way (sym (goes_for_none line_sets cache.lines copies.cache line way is) ∙ ap (way_at cache.lines) (sym same) ∙ there),
+      )
+
+  pub moved_so : AreCopies (lines.lines_of cache.store) cache.lines →
+      (IsQuiet new → (other : ℕ) → other ≢ line → line_at (contents new) other ≡ line_at (contents old) other) → ((bus : B) → bus_moved bus [] bus) →
       ((engine engine' : TagEngineView T) → engine'.geometry ≡ engine.geometry → engine'.tagger ≡ engine.tagger → tags engine' ≡ tags engine) →
       ((first second third : B) (before after : List Access) → bus_moved first before second → bus_moved second after third → bus_moved first (before ++ after) third) →
       IsMoved history bus_moved tags old (line ∷ []) new
-  moved_so unmoved tags_stay moved_on =
+  moved_so copies same unmoved tags_stay moved_on =
       call_moved history bus_moved tags old new line going step.held (leaving cache.lines line) stop called stops_so
       (elim (listed_or_not (places cache.lines) line) [
         | inl there ↦
@@ -519,7 +597,15 @@ module _ {B T : Type 0} (history : B → BusHistory) (bus_moved : B → List Acc
         | inl there ↦ λ quiet level index none. ap (λ (l : SealedLinesView B T). (history l.bus).reads (node_place level index)) (step.hit there).0
         | inr out ↦ let m = missed out in missed_unread history bus_moved tags old new line going step.held (leaving cache.lines line) m.answer m.miss
       ])
-      fits_so step.few
+      fits_so step.few same
+      (λ quiet. elim (listed_or_not (places cache.lines) line) [
+        | inl there ↦
+            subst (λ (l : SealedLinesView B T). EncryptsContents (lines.enc_key cache.store) (made l) (length (made cache.store)) (length (made l)) (line ∷ []) (contents old) (contents new))
+            (sym (step.hit there).0) (encrypts_none (lines.enc_key cache.store) (made cache.store) (length (made cache.store)) (line ∷ []) (contents old) (contents new))
+        | inr out ↦
+            let m = missed out in
+            missed_encrypts history bus_moved tags old new line going step.held (same quiet) (leaving cache.lines line) m.answer m.miss quiet (goes copies)
+      ])
 
   pub few_so : length (held_lines new) ≤ most_held
   few_so = step.few

@@ -1,3 +1,4 @@
+pub mod Encrypted
 pub mod SecureRam
 pub mod Moving
 pub mod LineCall

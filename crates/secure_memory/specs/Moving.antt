@@ -1,25 +1,33 @@
 -- What calls make of a memory, one after another.
-use Rattle.std.proofs.Common.{◌≡◌, ◌⊎◌, inl, inr, ℕ, ◌<◌, List, [], ◌++◌, map, get_or, Some, None, Contains, length, refl, ap, sym, ◌∙◌, subst, arith}
-use Rattle.std.proofs.lemmas.List.{get_or-map, length-map}
+use Rattle.std.proofs.Common.{◌≡◌, ◌⊎◌, inl, inr, ℕ, ◌<◌, List, [], ◌++◌, map, take, get_or, Some, None, Contains, length, refl, ap, sym, ◌∙◌, subst, append_assoc, arith}
+use Rattle.std.specs.List.{slice_get}
+use Rattle.std.proofs.lemmas.Bool.{cases_lt}
+use Rattle.std.proofs.lemmas.List.{get_or-map, length-map, take-append-le}
 use Rattle.std.proofs.lemmas.List.Elements.{Contains-append_cases, Contains-append_left, Contains-append_right, Contains-get_or}
+use Rattle.std.proofs.lemmas.Option.{slice_get-get_or}
 use Rattle.sec_base.specs.Geometry.{page_of}
 use Rattle.sec_base.specs.LastMessage.{data_part, last_data, last_node, node_part}
+use Rattle.sec_base.specs.Lines.{line_at}
 use Rattle.sec_base.specs.declared.message.Message.{Message}
+use Rattle.sec_base.specs.declared.message.Message.TheVariants.{Line}
 use Rattle.sec_base.specs.declared.place.Place.TheVariants.{Line as line_place, Node}
 use Rattle.sec_base.specs.declared.stop.MemStop.{MemStop}
 use Rattle.sec_base.specs.declared.stop.MemStop.TheVariants.{NoMemory}
 use Rattle.sec_base.proofs.LastMessages.{none_front}
 use Rattle.sec_base.proofs.Results.{was_none}
-use Rattle.sec_base.proofs.Lists.{none_contained}
+use Rattle.sec_base.proofs.Lists.{get_front, none_contained}
 use Rattle.bus_model.specs.Access.{Access}
 use Rattle.bus_model.specs.BusHistory.{BusHistory}
 use Rattle.tag_engine.specs.TagEngine.{TagEngineView}
 use Rattle.cache_set.specs.declared.way.Way.{Way}
-use Rattle.page_reencrypt.specs.SealedLines.{IsLineOf, Moves}
+use Rattle.pad_stream.specs.Pad.{cipher_of}
+use Rattle.page_reencrypt.specs.Contents.{line_bytes}
+use Rattle.page_reencrypt.specs.SealedLines.{IsLineOf, Moves, enc_key}
 use Rattle.page_reencrypt.proofs.Moves.{moves_not, own_moves_after, own_moves_on}
 use Rattle.counter_cache.proofs.BlocksMade.{blocks_held_on}
 use Rattle.bonsai_tree.proofs.Climbs.{read_up_held, read_up_on, unless_held_on, unmade_before}
-use Rattle.secure_memory.specs.SecureRam.{SecureRamView, CopiesHad, IsMoved, IsQuiet, LineHad, PageHad, PageRead, WereHad, cached_pages, evidence, held_lines, made, pages_on_chip, stopped}
+use Rattle.secure_memory.specs.Encrypted.{EncryptsContents, HadAtCall}
+use Rattle.secure_memory.specs.SecureRam.{SecureRamView, CopiesHad, IsMoved, IsQuiet, LineHad, PageHad, PageRead, WereHad, cached_pages, contents, evidence, held_lines, made, pages_on_chip, stopped}
 
 -- what stands in a list that was mapped came from something
 mapped_from : (f : ℕ → ℕ) (items : List ℕ) (y : ℕ) → Contains (map f items) y → (x : ℕ) × Contains items x × (f x ≡ y)
@@ -51,6 +59,75 @@ copies_not history memory ways = record {
   nodes = λ quiet level index cached. read_up_held memory.lines.counters.tree (made memory) level index (history memory.lines.bus) (history memory.lines.bus) cached;
   nodes_came = λ quiet memory level index cached. inl (cached, refl);
   blocks_came = λ quiet goes page cached. inl (cached, refl);
+}
+
+-- What a line had as one of some calls was made, with more calls behind them and before them
+module _ (calls more first second third : List ℕ) (line : ℕ) (bytes : List ℕ) where
+  had_sooner : (¬ Contains more line → line_at third line ≡ line_at second line) → HadAtCall calls first second line bytes →
+      HadAtCall (calls ++ more) first third line bytes
+  had_sooner same had = record {
+    sooner = had.sooner;
+    later = had.later ++ more;
+    all = ap (λ (lines : List ℕ). lines ++ more) had.all ∙ append_assoc had.sooner had.later more;
+    before = had.before;
+    after = λ none.
+        had.after (λ is. none (Contains-append_left had.later more line is))
+        ∙ sym (same (λ is. none (Contains-append_right had.later more line is)));
+  }
+
+  had_later : (¬ Contains calls line → line_at second line ≡ line_at first line) → HadAtCall more second third line bytes →
+      HadAtCall (calls ++ more) first third line bytes
+  had_later same had = record {
+    sooner = calls ++ had.sooner;
+    later = had.later;
+    all = ap (λ (lines : List ℕ). calls ++ lines) had.all ∙ sym (append_assoc calls had.sooner had.later);
+    before = λ none.
+        had.before (λ is. none (Contains-append_right calls had.sooner line is))
+        ∙ same (λ is. none (Contains-append_left calls had.sooner line is));
+    after = had.after;
+  }
+
+-- What messages say
+
+encrypts_by : (key : List ℕ) (made : List Message) (from to : ℕ) (lines lines' old old' new new' : List ℕ) →
+    ((line : ℕ) (bytes : List ℕ) → HadAtCall lines old new line bytes → HadAtCall lines' old' new' line bytes) →
+    EncryptsContents key made from to lines old new → EncryptsContents key made from to lines' old' new'
+encrypts_by key made from to lines lines' old old' new new' follows encrypts = record {
+  says = λ at line counter cipher low high there. elim (encrypts.says at line counter cipher low high there) [
+    | inl same ↦ inl same
+    | inr had ↦ inr (follows line (cipher_of key line counter cipher) had)
+  ];
+}
+
+-- no message says nothing
+pub encrypts_none : (key : List ℕ) (made : List Message) (from : ℕ) (lines old new : List ℕ) →
+    EncryptsContents key made from from lines old new
+encrypts_none key made from lines old new = record {
+  says = λ at line counter cipher low high there. absurd (omega (arith, low, high));
+}
+
+at_front : (made more : List Message) (at : ℕ) (message : Message) → at < length made →
+    slice_get (made ++ more) at ≡ Some message → slice_get made at ≡ Some message
+at_front made more at message below there =
+    let here : slice_get made at ≡ Some (get_or made at message) = slice_get-get_or made at message below in
+    here ∙ sym (get_front made more at (get_or made at message) here) ∙ there
+
+-- messages behind others
+pub encrypts_both : (key : List ℕ) (made more made' : List Message) (from : ℕ) (lines old new : List ℕ) → made' ≡ made ++ more →
+    EncryptsContents key made from (length made) lines old new →
+    EncryptsContents key made' (length made) (length made') lines old new →
+    EncryptsContents key made' from (length made') lines old new
+encrypts_both key made more made' from lines old new is first second = record {
+  says = λ at line counter cipher low high there. elim (cases_lt at (length made)) [
+    | inl below ↦
+        let here : slice_get made at ≡ Some (Line line counter cipher) =
+        at_front made more at (Line line counter cipher) below (ap (λ (xs : List Message). slice_get xs at) (sym is) ∙ there) in
+        let front : take at made' ≡ take at made = ap (take at) is ∙ take-append-le at made more (omega (arith, below)) in
+        subst (λ (xs : List Message). ((counter.line ≡ 0) × (cipher_of key line counter cipher ≡ line_bytes key xs line))
+        ⊎ HadAtCall lines old new line (cipher_of key line counter cipher)) (sym front)
+        (first.says at line counter cipher low below here)
+    | inr behind ↦ second.says at line counter cipher behind high there
+  ];
 }
 
 module _ {B T : Type 0} (history : B → BusHistory) (bus_moved : B → List Access → B → Type 0) (tags : TagEngineView T → Message → List ℕ) where
@@ -173,6 +250,26 @@ module _ {B T : Type 0} (history : B → BusHistory) (bus_moved : B → List Acc
             let was_going = was_none (stopped second) (stopped third) b.stays going in
             let was_quiet = was_none (evidence second) (evidence third) b.moves.step.evidence quiet in
             had_on (IsLineOf first.lines) first second third before after a.moves more a.copies was_quiet (a.had was_going was_quiet) (b.had going quiet);
+        encrypts = λ quiet.
+            let was_quiet = was_none (evidence second) (evidence third) b.moves.step.evidence quiet in
+            let key : List ℕ = enc_key first.lines in
+            encrypts_both key (made second) b.moves.step.more (made third) (length (made first)) (before ++ after)
+            (contents first) (contents third) b.moves.step.made
+            (encrypts_by key (made second) (length (made first)) (length (made second)) before (before ++ after)
+            (contents first) (contents first) (contents second) (contents third)
+            (λ line bytes. had_sooner before after (contents first) (contents second) (contents third) line bytes (b.untouched quiet line))
+            (a.encrypts was_quiet))
+            (encrypts_by key (made third) (length (made second)) (length (made third)) after (before ++ after)
+            (contents second) (contents first) (contents third) (contents third)
+            (λ line bytes. had_later before after (contents first) (contents second) (contents third) line bytes
+            (a.untouched was_quiet line))
+            (subst (λ (k : List ℕ).
+            EncryptsContents k (made third) (length (made second)) (length (made third)) after (contents second) (contents third))
+            a.moves.key (b.encrypts quiet)));
+        untouched = λ quiet line none.
+            b.untouched quiet line (λ is. none (Contains-append_right before after line is))
+            ∙ a.untouched (was_none (evidence second) (evidence third) b.moves.step.evidence quiet) line
+            (λ is. none (Contains-append_left before after line is));
       }
 
   -- No call makes nothing of a memory
@@ -188,4 +285,7 @@ module _ {B T : Type 0} (history : B → BusHistory) (bus_moved : B → List Acc
       touched = λ line listed. absurd (none_contained line listed);
       held = λ line held. (inl held, inl (on_chip_of_line (held_lines memory) (cached_pages memory) line held));
     };
+    encrypts = λ quiet.
+        encrypts_none (enc_key memory.lines) (made memory) (length (made memory)) [] (contents memory) (contents memory);
+    untouched = λ quiet line none. refl;
   }

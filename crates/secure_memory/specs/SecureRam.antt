@@ -1,5 +1,5 @@
 -- What contracts see of the memory that the processor sees, and what calls make of it.
-use Rattle.std.specs.Prelude.{◌≡◌, ◌≢◌, ◌⊎◌, ℕ, ◌+◌, ◌≤◌, List, ◌++◌, length, map, Option, Some, None, Contains}
+use Rattle.std.specs.Prelude.{◌≡◌, ◌≢◌, ◌⊎◌, ℕ, ◌≤◌, List, ◌++◌, length, map, Option, Some, None, Contains}
 use Rattle.sec_base.specs.declared.counter.Counter.{Counter}
 use Rattle.sec_base.specs.declared.evidence.Evidence.{Evidence}
 use Rattle.sec_base.specs.declared.message.Message.{Message}
@@ -9,6 +9,7 @@ use Rattle.sec_base.specs.declared.stop.MemStop.TheVariants.{NoMemory}
 use Rattle.sec_base.specs.Count.{Rose}
 use Rattle.sec_base.specs.Geometry.{GeometryView, page_of}
 use Rattle.sec_base.specs.LastMessage.{last_data}
+use Rattle.sec_base.specs.Lines.{line_at}
 use Rattle.bus_model.specs.Access.{Access}
 use Rattle.bus_model.specs.BusHistory.{BusHistory}
 use Rattle.tag_engine.specs.TagEngine.{TagEngineView}
@@ -19,11 +20,12 @@ use Rattle.bonsai_tree.specs.Tree as tree
 use Rattle.counter_cache.specs.Counters.{BlocksCameUnlessHeld, CameFrom, most_blocks}
 use Rattle.counter_cache.specs.Counters as page_counters
 use Rattle.page_reencrypt.specs.LineMoves.{FitsUnlessStopped}
-use Rattle.page_reencrypt.specs.SealedLines.{IsLineOf, Moves, SealedLinesView}
+use Rattle.page_reencrypt.specs.SealedLines.{IsLineOf, Moves, SealedLinesView, enc_key}
 use Rattle.page_reencrypt.specs.SealedLines as sealed_lines
 use Rattle.cache_set.specs.declared.way.Way.{Way}
 use Rattle.cache_set.specs.Cache.{places}
 use Rattle.line_cache.specs.LineCache.{contents_over, most_held}
+use Rattle.secure_memory.specs.Encrypted.{EncryptsContents}
 
 -- the lines outside, and the sets of ways with copies of lines
 pub record SecureRamView (B T : Type 0) : Type 0 where
@@ -136,3 +138,7 @@ pub record IsMoved {B T : Type 0} (history : B → BusHistory) (bus_moved : B �
   -- what stands outside fits what the chip has of it, unless it stopped or there is evidence
   pub fits : FitsUnlessStopped history bus_moved tags old.lines → FitsUnlessStopped history bus_moved tags new.lines
   pub had : stopped new ≡ None → IsQuiet new → WereHad history old lines new
+  -- what the messages that were made say of the lines, and that a line that no call touches keeps its bytes
+  pub encrypts : IsQuiet new →
+      EncryptsContents (enc_key old.lines) (made new) (length (made old)) (length (made new)) lines (contents old) (contents new)
+  pub untouched : IsQuiet new → (line : ℕ) → ¬ Contains lines line → line_at (contents new) line ≡ line_at (contents old) line

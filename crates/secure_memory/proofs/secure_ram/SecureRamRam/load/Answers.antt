@@ -2,6 +2,7 @@ use Rattle.std.proofs.Common.{◌≡◌, ◌∷◌, [], ℕ, List, Option, Some,
 use Rattle.std.specs.Option.{option_or}
 use Rattle.std.specs.Result.{result_err}
 use Rattle.sec_base.specs.Geometry.{line_of}
+use Rattle.sec_base.specs.Lines.{line_at}
 use Rattle.sec_base.specs.Width.{number_at}
 use Rattle.sec_base.specs.declared.stop.MemStop.{MemStop}
 use Rattle.tag_engine.specs.TagEngine.{tags_of}
@@ -63,7 +64,10 @@ returns-clause-moved g c =
     let tags = tags_of g.T.Tagger.data_tag_of g.T.Tagger.node_tag_of in
     subst (λ (m : SecureRamView g.row.B.Denot g.row.T.Denot). IsMoved g.B.Bus.history g.B.Bus.moved tags m (line_of c.args.addr ∷ []) (memory_of c.load.new.self)) c.self.view_is
     (moved_so g.B.Bus.history g.B.Bus.moved tags c.self.inside.lines c.load.new.self (line_of c.args.addr) (result_err c.load.result) (λ bytes. bytes)
-    (going g c) c.load.ensures.moved (hit g c) c.load.ensures.missed g.met.B.Bus.unmoved (same_tags g.T.Tagger.data_tag_of g.T.Tagger.node_tag_of) g.met.B.Bus.moved_on)
+    (going g c) c.load.ensures.moved (hit g c) c.load.ensures.missed c.load.ensures.copies
+    (λ quiet other apart. ap (λ (bytes : List ℕ). line_at bytes other)
+    (c.load.ensures.contents (ap (λ (o : Option MemStop). option_or o c.self.inside.lines.store.stopped) (none_stopped g c) ∙ going g c) quiet))
+    g.met.B.Bus.unmoved (same_tags g.T.Tagger.data_tag_of g.T.Tagger.node_tag_of) g.met.B.Bus.moved_on)
 
 pub returns-clause-call : goal.returns-clause-call
 returns-clause-call g c = λ _.

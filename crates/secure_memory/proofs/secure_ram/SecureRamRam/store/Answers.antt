@@ -1,20 +1,23 @@
-use Rattle.std.proofs.Common.{◌≡◌, ◌%◌, ◌∷◌, [], ℕ, List, Option, Some, None, OnOk, Contains, ap, sym, ◌∙◌, subst, IfErr}
+use Rattle.std.proofs.Common.{◌≡◌, ◌%◌, ◌∷◌, [], ℕ, List, Option, Some, None, OnOk, Contains, ap, sym, ◌∙◌, subst, IfErr, inl, inr, arith}
 use Rattle.std.specs.Option.{option_or}
 use Rattle.std.specs.Result.{result_err}
 use Rattle.sec_base.specs.Geometry.{line_of}
+use Rattle.sec_base.specs.Lines.{line_at}
 use Rattle.sec_base.specs.Width.{with_number}
 use Rattle.sec_base.specs.declared.stop.MemStop.{MemStop}
 use Rattle.tag_engine.specs.TagEngine.{tags_of}
 use Rattle.page_reencrypt.specs.LineMoves.{ReadMoved, WriteMoved}
-use Rattle.page_reencrypt.specs.SealedLines.{SealedLinesView}
+use Rattle.page_reencrypt.specs.SealedLines.{SealedLinesView, contents as line_contents}
 use Rattle.page_reencrypt.specs.Stops.{lasting_stop}
 use Rattle.cache_set.specs.Cache.{copy_at, places}
 use Rattle.cache_set.specs.Bringing.{brought, leaving, with_changed}
 use Rattle.line_cache.specs.LineCache.{IsMissed, IsStoppedMiss, LineCacheView}
+use Rattle.line_cache.specs.Moving.{length-contents_over}
 use Rattle.secure_memory.specs.LineCall.{IsLineCall}
-use Rattle.secure_memory.specs.SecureRam.{SecureRamView, IsMoved, stopped}
+use Rattle.secure_memory.specs.SecureRam.{SecureRamView, IsMoved, contents, lines_of, stopped}
 use Rattle.checked_bus.proofs.Makes.{same_tags}
-use Rattle.secure_memory.proofs.LineCalls.{called, copy_held, few_so, fits_so, memory_of, moved_so, ok_goes, stopped_unmoved, stops_so}
+use Rattle.secure_memory.proofs.OtherLines.{other_line}
+use Rattle.secure_memory.proofs.LineCalls.{called, copy_held, done_or_not, few_so, fits_so, memory_of, moved_so, ok_goes, stopped_unmoved, stops_so}
 use Rattle.secure_memory.proofs.secure_ram.SecureRamRam.store.Given.{Over}
 use Rattle.secure_memory.proofs.secure_ram.SecureRamRam.store.Goals as goal
 
@@ -63,7 +66,19 @@ returns-clause-moved g c =
     let tags = tags_of g.T.Tagger.data_tag_of g.T.Tagger.node_tag_of in
     subst (λ (m : SecureRamView g.row.B.Denot g.row.T.Denot). IsMoved g.B.Bus.history g.B.Bus.moved tags m (line_of c.args.addr ∷ []) (memory_of c.store.new.self)) c.self.view_is
     (moved_so g.B.Bus.history g.B.Bus.moved tags c.self.inside.lines c.store.new.self (line_of c.args.addr) (result_err c.store.result) (λ bytes. with_number bytes (c.args.addr % 64) c.args.width c.args.value)
-    (going g c) c.store.ensures.moved (hit g c) c.store.ensures.missed g.met.B.Bus.unmoved (same_tags g.T.Tagger.data_tag_of g.T.Tagger.node_tag_of) g.met.B.Bus.moved_on)
+    (going g c) c.store.ensures.moved (hit g c) c.store.ensures.missed c.store.ensures.copies
+    (λ quiet other apart.
+    let cache : LineCacheView (SealedLinesView g.row.B.Denot g.row.T.Denot) = c.self.inside.lines in
+    let goes = ap (λ (o : Option MemStop). option_or o cache.store.stopped) (none_stopped g c) ∙ going g c in
+    let size : lines_of (memory_of cache) ≡ lines_of c.args.self.now = ap (λ (m : SecureRamView g.row.B.Denot g.row.T.Denot). lines_of m) c.self.view_is in
+    elim (done_or_not c.store.result (c.store.ensures.stored goes quiet) (c.store.ensures.unchanged goes quiet)) [
+      | inl put ↦
+          ap (λ (bytes : List ℕ). line_at bytes other) put
+          ∙ other_line (contents (memory_of cache)) c.args.addr c.args.value other c.args.width c.requires.aligned
+          (omega (arith, c.requires.inside, size, length-contents_over (line_contents cache.store) (lines_of (memory_of cache)) cache.lines)) apart
+      | inr same ↦ ap (λ (bytes : List ℕ). line_at bytes other) same
+    ])
+    g.met.B.Bus.unmoved (same_tags g.T.Tagger.data_tag_of g.T.Tagger.node_tag_of) g.met.B.Bus.moved_on)
 
 pub returns-clause-call : goal.returns-clause-call
 returns-clause-call g c = λ _.
