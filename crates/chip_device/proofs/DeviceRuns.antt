@@ -9,6 +9,7 @@ use Rattle.hmac_tag.specs.Tags.{TagKeys, tag_of, xor_tag_of}
 use Rattle.hmac_tag.specs.declared.derivation.Keys.{Keys}
 use Rattle.tag_engine.specs.Tag.{engine_tag}
 use Rattle.rv32_core.specs.Machine.{Machine, opening as image_opening}
+use Rattle.rv32_run.specs.StoredLines.{image_lines}
 use Rattle.sec_base.specs.Program.{IsImageOf, Program}
 use Rattle.chip_words.specs.declared.request.Tags.TheVariants.{Hmac, Xor}
 use Rattle.chip_words.specs.declared.request.Terms.{Terms}
@@ -18,7 +19,8 @@ use Rattle.sec_base.specs.declared.message.Message.{Message}
 use Rattle.bus_model.specs.Access.{Access, AreOf, CameBy}
 use Rattle.bus_model.specs.BusHistory.{BusHistory, new_history}
 use Rattle.checked_bus.specs.Makes.{access_of}
-use Rattle.chip_run.specs.Run.{KeepsAccesses, ReadsByInstruction, Terms as RunTerms}
+use Rattle.chip_run.specs.ByInstruction.{Basis, GoesByInstruction}
+use Rattle.chip_run.specs.Run.{KeepsAccesses, Terms as RunTerms, basis_of}
 use Rattle.chip_run.specs.declared.RunRecord.{RunRecord}
 use Rattle.chip_device.specs.Buses.{IsBusOf, IsSameKind, WentOver, kind_told, run_history}
 use Rattle.chip_device.specs.declared.run_bus.RunBus.{RunBus}
@@ -46,6 +48,10 @@ enc_key_is terms keys derived = rw derived refl
 pub opening_is : (geometry : GeometryView) (program : Program) (input : List ℕ) (image : Image) → IsImageOf (memory_size geometry) program image → image_opening image input ≡ opening geometry program input
 opening_is geometry program input image is = rw (is.entry, is.memory, is.segments) refl
 
+-- the lines that storing it touches are the program's
+pub stored_lines_are : (geometry : GeometryView) (program : Program) (image : Image) → IsImageOf (memory_size geometry) program image → image_lines image.segments ≡ image_lines program.segments
+stored_lines_are geometry program image is = ap image_lines is.segments
+
 -- and so is what was measured
 pub measurement_is : (geometry : GeometryView) (program : Program) (image : Image) → IsImageOf (memory_size geometry) program image →
     measurement_of image ≡ measurement_by program.entry (memory_size geometry) program.segments
@@ -65,11 +71,16 @@ still_of (Some script) (Script old) (Honest new) accesses is same = absurd same
 still_of None (Script old) new accesses is same = absurd is
 still_of (Some script) (Honest old) new accesses is same = absurd is
 
+-- the basis is the same
+same_basis : (terms asked : RunTerms) → terms.start ≡ asked.start → terms.stored_lines ≡ asked.stored_lines → terms.geometry ≡ asked.geometry → terms.enc_key ≡ asked.enc_key →
+    basis_of terms ≡ basis_of asked
+same_basis terms asked starts stored geometry key = rw (starts, stored, geometry, key) refl
+
 -- what a run on a new bus tells of its accesses, by the terms that it was asked on
-pub went_over : (terms asked : RunTerms) (run : RunRecord) (old new : RunBus) → terms.start ≡ asked.start → terms.tag_of ≡ asked.tag_of → terms.geometry ≡ asked.geometry →
-    run_history old ≡ new_history asked.geometry → (accesses : List Access) × IsSameKind old accesses new × KeepsAccesses terms (run_history new) accesses run →
-    WentOver asked run new
-went_over terms asked run old new starts tags geometry begins told =
+pub went_over : (terms asked : RunTerms) (run : RunRecord) (old new : RunBus) → terms.start ≡ asked.start → terms.stored_lines ≡ asked.stored_lines → terms.tag_of ≡ asked.tag_of →
+    terms.geometry ≡ asked.geometry → terms.enc_key ≡ asked.enc_key → run_history old ≡ new_history asked.geometry →
+    (accesses : List Access) × IsSameKind old accesses new × KeepsAccesses terms (run_history new) accesses run → WentOver asked run new
+went_over terms asked run old new starts stored tags geometry key begins told =
     let accesses : List Access = told.0 in
     let keeps = told.2 in
     record {
@@ -84,6 +95,7 @@ went_over terms asked run old new starts tags geometry begins told =
         inside = subst (λ (shape : GeometryView). AreOf (IsPlace shape) accesses) geometry keeps.inside;
         shown = keeps.shown;
         tampered = keeps.tampered;
-        by_instruction = λ quiet counted. subst (λ (start : Machine). ReadsByInstruction start accesses run) starts (keeps.by_instruction quiet counted);
+        by_instruction = λ quiet. subst (λ (basis : Basis). GoesByInstruction basis (run_history new) accesses run.made run.retired run.ending)
+            (same_basis terms asked starts stored geometry key) (keeps.by_instruction quiet);
       };
     }

@@ -8,6 +8,7 @@ use Rattle.hmac_tag.specs.DeviceKeys.{keys_of}
 use Rattle.hmac_tag.specs.Tags.{tag_of, xor_tag_of}
 use Rattle.tag_engine.specs.Tag.{engine_tag}
 use Rattle.rv32_core.specs.Machine.{Machine, opening_of}
+use Rattle.rv32_run.specs.StoredLines.{image_lines}
 use Rattle.chip_run.specs.Report.{ReportTerms}
 use Rattle.chip_run.specs.Run.{Terms as RunTerms}
 use Rattle.chip_words.specs.Request.{RunAsked}
@@ -47,6 +48,7 @@ report_terms_of asked program input = record {
 abbrev pub terms_of : RunAsked → Program → List ℕ → RunTerms
 terms_of asked program input = record {
   start = opening asked.execution.file.geometry program input;
+  stored_lines = image_lines program.segments;
   budget = asked.execution.steps;
   geometry = asked.execution.file.geometry;
   page_limit = asked.terms.page_limit;

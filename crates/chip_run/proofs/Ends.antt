@@ -29,6 +29,7 @@ use Rattle.pad_stream.specs.Pads.{of_lines}
 use Rattle.bonsai_tree.specs.Tree.{NodesAreMade, NodesHoldLast, UnmadeAreUnread}
 use Rattle.page_reencrypt.specs.Contents.{ArePaged, HoldsLast, HoldsSealed, IsSpent, NodesSay, counter_in}
 use Rattle.page_reencrypt.specs.SealedLines.{CountersRise}
+use Rattle.page_reencrypt.proofs.Successive.{counted_rising}
 use Rattle.chip_run.specs.Run.{Terms, EndsAnywhere, FollowsPlain, IsCutOff, IsWrittenOut, KeepsBudget, KeepsLists, KeepsPads, RanProtected, ShowsEvidence, default_page_limit}
 use Rattle.chip_run.specs.declared.record.RunRecord.{RunRecord}
 use Rattle.chip_run.proofs.Closing.{ended_account, never_wanting, not_lasting, stopped_spent}
@@ -147,12 +148,11 @@ module _ (terms : Terms) (printed : List ℕ) (before after : BusHistory) (run :
 
   keeps_pads : run.evidence ≡ None → KeepsPads terms run
   keeps_pads quiet = record {
-    no_repeat = rising_once run.used (memory.rise quiet).rising;
+    no_repeat = rising_once run.used (counted_rising run.used (memory.rise quiet).successive);
     pads_apart = memory.apart quiet;
-    rising = (memory.rise quiet).rising;
+    successive = (memory.rise quiet).successive;
     counters = (memory.rise quiet).within;
     spent = spent_page quiet;
-    unskipped = (memory.rise quiet).unskipped;
     paged = paged quiet;
     unspent = λ default page is.
         never_spent (line_count terms.geometry) terms.page_limit run.used page (paged quiet (spent_whole run.ending page is)) memory.few default (spent_page quiet page is);

@@ -17,19 +17,16 @@ use Rattle.bus_model.specs.Access.{Access}
 use Rattle.bus_model.specs.BusHistory.{BusHistory, NothingWritten}
 use Rattle.tag_engine.specs.Tag.{engine_tag}
 use Rattle.tag_engine.specs.TagEngine.{tags_of}
-use Rattle.pad_stream.proofs.RisingCounters.{rising_nothing}
-use Rattle.rv32_core.specs.Machine.{Machine}
-use Rattle.rv32_run.specs.Execution.{CarriesEnding}
+use Rattle.rv32_run.specs.Execution.{CarriesEnding, IsMemoryEnding}
 use Rattle.checked_bus.specs.Steps.{IsAccounted}
 use Rattle.pad_stream.specs.PadBlocks.{ShareNoBlock}
 use Rattle.pad_stream.specs.Pads.{of_lines}
 use Rattle.bonsai_tree.specs.Tree.{NodesAreMade, UnmadeAreUnread}
-use Rattle.page_reencrypt.specs.Contents.{AreUnskipped, AreWithin, HoldsSealed, NodesSay, contents_of}
+use Rattle.page_reencrypt.specs.Contents.{AreSuccessive, AreWithin, HoldsSealed, NodesSay, contents_of}
 use Rattle.page_reencrypt.specs.SealedLines.{AccountsForAll, AreNew, AreProtected, CountersRise, IsLineOf, IsQuiet, Moves, SealedLinesView, contents, enc_key, evidence, geometry, lines_of, made, used}
 use Rattle.cache_set.specs.declared.way.Way.{Way}
 use Rattle.line_cache.specs.LineCache.{contents_over}
-use Rattle.chip_run.specs.Report.{ReportTerms}
-use Rattle.chip_run.specs.Run.{KeepsAccesses, Terms}
+use Rattle.chip_run.specs.Run.{KeepsAccesses, Terms, basis_of}
 use Rattle.chip_run.specs.declared.record.RunRecord.{RunRecord}
 use Rattle.bonsai_tree.proofs.MadeSlots.{slots_none}
 use Rattle.chip_run.proofs.Ends.{OfMemory}
@@ -53,15 +50,10 @@ begins_accounted tag_of used made history stopped evidence none quiet untampered
 -- A run that found no memory to begin with
 
 nothing_within : (lines limit : ℕ) → AreWithin lines limit []
-nothing_within lines limit = record {
-  started = λ line counter listed. absurd (omega (arith, listed.1));
-  limited = λ line counter inside listed. absurd (omega (arith, listed.1));
-  seven_bits = λ line counter listed. absurd (omega (arith, listed.1));
-}
+nothing_within lines limit = record { limited = λ line counter inside listed. absurd (omega (arith, listed.1)) }
 
-nothing_unskipped : (lines : ℕ) → AreUnskipped lines []
-unfolding last_at
-nothing_unskipped lines = record { reached = λ line inside. omega arith }
+nothing_counted : AreSuccessive []
+nothing_counted = record { each = λ at line counter there. absurd (cc) }
 
 nothing_sealed : (tag_of : Message → List ℕ) (geometry : GeometryView) (bus : BusHistory) → bus.geometry ≡ geometry → NothingWritten bus →
     HoldsSealed tag_of (line_count geometry) [] [] bus.written
@@ -80,9 +72,8 @@ nothing_paired lines = refl
 
 nothing_risen : (geometry : GeometryView) (limit : ℕ) → CountersRise geometry limit [] (Some no_memory)
 nothing_risen geometry limit = record {
-  rising = rising_nothing;
+  successive = nothing_counted;
   within = nothing_within (line_count geometry) limit;
-  unskipped = nothing_unskipped (line_count geometry);
   paged = λ going. absurd (cc);
   spent = λ page is. absurd (cc);
 }
@@ -101,11 +92,8 @@ run_of retired ending evidence made used report =
 pub no_memory_run : (terms : Terms) (bus : BusHistory) (run : RunRecord) → bus.geometry ≡ terms.geometry → bus.lies ≡ 0 → NothingWritten bus →
     run.ending ≡ NoMemory → run.made ≡ [] → run.used ≡ [] → run.evidence ≡ None → OfMemory terms bus bus run
 no_memory_run terms bus run as_many honest empty ended none_made none_used none =
-    let same : run_of run.retired NoMemory None [] [] run.report ≡ run =
-    ap (λ (ending : Ending). run_of run.retired ending None [] [] run.report) (sym ended)
-    ∙ ap (λ (evidence : Option Evidence). run_of run.retired run.ending evidence [] [] run.report) (sym none)
-    ∙ ap (λ (made : List Message). run_of run.retired run.ending run.evidence made [] run.report) (sym none_made)
-    ∙ ap (λ (used : List (ℕ × Counter)). run_of run.retired run.ending run.evidence run.made used run.report) (sym none_used) in
+    let same : run_of run.retired NoMemory None [] [] run.report ≡ run_of run.retired run.ending run.evidence run.made run.used run.report =
+    rw (ended, none, none_made, none_used) refl in
     subst (λ (r : RunRecord). OfMemory terms bus bus r) same (record {
       stopped = Some no_memory;
       carries = refl;
@@ -136,7 +124,8 @@ no_accesses terms bus run retired ended none_made none = record {
   inside = tt;
   shown = λ evidence is. absurd (cc);
   tampered = λ place is. absurd (cc);
-  by_instruction = λ quiet counted. none_retired terms.start [] run retired;
+  by_instruction = λ quiet. none_retired (basis_of terms) bus [] run.made run.retired run.ending [] retired (subst IsMemoryEnding (sym ended) tt)
+      (record { says = λ at line counter cipher begun below. let none = ap length none_made in absurd (omega (arith, below, none)) });
 }
 
 -- A run that had a memory
@@ -155,18 +144,11 @@ in_words lines bus tagger shape key limit made evidence used = record {
 same_lines : {B T : Type 0} (lines : SealedLinesView B T) (bus : B) (tagger : T) (shape : GeometryView) (key : List ℕ) (limit : ℕ) (made' : List Message) (evidence' : Option Evidence) (used' : List (ℕ × Counter)) →
     bus ≡ lines.bus → lines.engine.tagger ≡ tagger → geometry lines ≡ shape → enc_key lines ≡ key → lines.limit ≡ limit → made' ≡ made lines → evidence' ≡ evidence lines → used' ≡ used lines →
     lines ≡ in_words lines bus tagger shape key limit made' evidence' used'
-same_lines {B} {T} lines bus tagger shape key limit made' evidence' used' bus_is tagger_is geometry_is key_is limit_is made_is evidence_is used_is =
-    ap (λ (b : B). in_words lines b lines.engine.tagger (geometry lines) (enc_key lines) lines.limit (made lines) (evidence lines) (used lines)) (sym bus_is)
-    ∙ ap (λ (t : T). in_words lines bus t (geometry lines) (enc_key lines) lines.limit (made lines) (evidence lines) (used lines)) tagger_is
-    ∙ ap (λ (l : GeometryView). in_words lines bus tagger l (enc_key lines) lines.limit (made lines) (evidence lines) (used lines)) geometry_is
-    ∙ ap (λ (k : List ℕ). in_words lines bus tagger shape k lines.limit (made lines) (evidence lines) (used lines)) key_is
-    ∙ ap (λ (n : ℕ). in_words lines bus tagger shape key n (made lines) (evidence lines) (used lines)) limit_is
-    ∙ ap (λ (xs : List Message). in_words lines bus tagger shape key limit xs (evidence lines) (used lines)) (sym made_is)
-    ∙ ap (λ (e : Option Evidence). in_words lines bus tagger shape key limit made' e (used lines)) (sym evidence_is)
-    ∙ ap (λ (xs : List (ℕ × Counter)). in_words lines bus tagger shape key limit made' evidence' xs) (sym used_is)
+same_lines lines bus tagger shape key limit made' evidence' used' bus_is tagger_is geometry_is key_is limit_is made_is evidence_is used_is =
+    rw (bus_is, sym tagger_is, sym geometry_is, sym key_is, sym limit_is, made_is, evidence_is, used_is) refl
 
-module _ {B T : Type 0} (d n : T → List ℕ → List ℕ) (history : B → BusHistory) (bus_moved : B → List Access → B → Type 0) (bus : B) (tagger : T) (key : List ℕ) (shape : GeometryView) (limit : ℕ)
-    (booted lines : SealedLinesView B T) (new : AreNew bus tagger key shape limit booted) (moves : Moves history bus_moved (tags_of d n) (IsLineOf booted) booted lines) where
+module _ {B T : Type 0} (d n : T → List ℕ → List ℕ) (history : B → BusHistory) (bus_moved : B → List Access → B → Type 0) (bus : B) (tagger : T) (terms : Terms)
+    (booted lines : SealedLinesView B T) (new : AreNew bus tagger terms.enc_key terms.geometry terms.page_limit booted) (moves : Moves history bus_moved (tags_of d n) (IsLineOf booted) booted lines) where
   new_accounted : (history bus).lies ≡ 0 → AccountsForAll (tags_of d n) history booted
   new_accounted honest =
       begins_accounted (tags_of d n booted.engine) (used booted) (made booted) (history booted.bus) booted.stopped (evidence booted)
@@ -177,22 +159,21 @@ module _ {B T : Type 0} (d n : T → List ℕ → List ℕ) (history : B → Bus
       subst (λ (b : B). RoseBy 0 ((history b).reads place) ((history lines.bus).reads place)) new.bus_is (moves.step.reads place)
 
   -- what it encrypted is of lines of the memory
-  run_inside : (line : ℕ) (counter : Counter) → Contains (used lines) (line, counter) → line < line_count shape
+  run_inside : (line : ℕ) (counter : Counter) → Contains (used lines) (line, counter) → line < line_count terms.geometry
   run_inside line counter listed =
       let entries : used lines ≡ moves.entries = moves.used_more ∙ ap (λ (used : List (ℕ × Counter)). used ++ moves.entries) new.unused in
       subst (λ (geometry : GeometryView). line < line_count geometry) new.geometry_is
       (moves.entries_allowed line counter (subst (λ (used : List (ℕ × Counter)). Contains used (line, counter)) entries listed))
 
-  pub run_memory : (start : Machine) (budget : ℕ) (report : ReportTerms) (closed : B) (run : RunRecord) → (history bus).lies ≡ 0 → AreProtected d n history lines →
+  pub run_memory : (closed : B) (run : RunRecord) → (history bus).lies ≡ 0 → AreProtected d n history lines →
       run.made ≡ made lines → run.used ≡ used lines → length run.used < 2 ^ 64 →
       (IsQuiet lines → ShareNoBlock (enc_key lines) run.used) → run.evidence ≡ evidence lines → closed ≡ lines.bus → CarriesEnding lines.stopped (Some run.ending) →
       (IsQuiet lines → UnmadeAreUnread (history booted.bus) (made lines) (history lines.bus)) →
-      OfMemory (record { start = start; budget = budget; geometry = shape; page_limit = limit; tag_of = engine_tag (d tagger) (n tagger) shape; enc_key = key; report = report })
-      (history bus) (history closed) run
-  run_memory start budget report closed run honest kept made_is used_is few apart evidence_is bus_is carries unread =
-      let words = in_words lines closed tagger shape key limit run.made run.evidence run.used in
+      OfMemory (record terms { tag_of = engine_tag (d tagger) (n tagger) terms.geometry }) (history bus) (history closed) run
+  run_memory closed run honest kept made_is used_is few apart evidence_is bus_is carries unread =
+      let words = in_words lines closed tagger terms.geometry terms.enc_key terms.page_limit run.made run.evidence run.used in
       let same : lines ≡ words =
-      same_lines lines closed tagger shape key limit run.made run.evidence run.used bus_is (moves.step.tagger ∙ new.tagger_is) (moves.step.geometry ∙ new.geometry_is)
+      same_lines lines closed tagger terms.geometry terms.enc_key terms.page_limit run.made run.evidence run.used bus_is (moves.step.tagger ∙ new.tagger_is) (moves.step.geometry ∙ new.geometry_is)
       (moves.key ∙ new.key_is) (moves.limit ∙ new.limit_is) made_is evidence_is used_is in
       let protected : AreProtected d n history words = subst (λ (m : SealedLinesView B T). AreProtected d n history m) same kept in
       record {
@@ -219,8 +200,8 @@ module _ {B T : Type 0} (d n : T → List ℕ → List ℕ) (history : B → Bus
 
   -- all its bytes, in the words of the run
   pub run_contents : (run : RunRecord) (ways : List (List Way)) → run.made ≡ made lines →
-      contents_over (contents_of key (line_count shape) run.made) (line_count shape) ways ≡ contents_over (contents lines) (lines_of lines) ways
+      contents_over (contents_of terms.enc_key (line_count terms.geometry) run.made) (line_count terms.geometry) ways ≡ contents_over (contents lines) (lines_of lines) ways
   run_contents run ways made_is =
-      ap (λ (made : List Message). contents_over (contents_of key (line_count shape) made) (line_count shape) ways) made_is
-      ∙ ap (λ (geometry : GeometryView). contents_over (contents_of key (line_count geometry) (made lines)) (line_count geometry) ways) (sym (moves.step.geometry ∙ new.geometry_is))
+      ap (λ (made : List Message). contents_over (contents_of terms.enc_key (line_count terms.geometry) made) (line_count terms.geometry) ways) made_is
+      ∙ ap (λ (geometry : GeometryView). contents_over (contents_of terms.enc_key (line_count geometry) (made lines)) (line_count geometry) ways) (sym (moves.step.geometry ∙ new.geometry_is))
       ∙ ap (λ (k : List ℕ). contents_over (contents_of k (line_count (geometry lines)) (made lines)) (lines_of lines) ways) (sym (moves.key ∙ new.key_is))

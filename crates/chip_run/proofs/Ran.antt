@@ -1,37 +1,39 @@
 -- What a program came to that ran on protected memory, from how it began and what it hands out.
-use Rattle.std.proofs.Common.{◌≡◌, inl, inr, ◌<◌, ℕ, List, [], ◌++◌, length, map, Option, Some, None, refl, sym, ap, ◌∙◌, subst, arith}
+use Rattle.std.proofs.Common.{◌≡◌, inl, inr, ◌<◌, ◌*◌, ℕ, List, [], ◌++◌, length, map, replicate, Some, None, refl, sym, ap, ◌∙◌, subst, arith}
 use Rattle.sec_base.specs.Geometry.{GeometryView, line_count}
 use Rattle.sec_base.specs.Place.{IsPlace}
+use Rattle.sec_base.specs.Prefix.{IsPrefix}
 use Rattle.sec_base.specs.declared.ending.Ending.{Ending}
 use Rattle.sec_base.specs.declared.message.Message.{Message}
-use Rattle.sec_base.specs.declared.stop.MemStop.{MemStop}
 use Rattle.sec_base.proofs.Results.{some_or_none, was_none}
 use Rattle.bus_model.specs.Access.{Access, AreOf, CameBy}
 use Rattle.bus_model.specs.BusHistory.{BusHistory}
 use Rattle.tag_engine.specs.Tag.{engine_tag}
 use Rattle.tag_engine.specs.TagEngine.{tags_of}
-use Rattle.checked_bus.specs.Makes.{HasAccesses, IsShownIn, MakesAccesses, access_of}
+use Rattle.checked_bus.specs.Makes.{IsShownIn, MakesAccesses, access_of}
 use Rattle.rv32_core.specs.Machine.{Machine, plain}
 use Rattle.rv32_core.specs.State.{CoreView}
-use Rattle.rv32_run.specs.Execution.{CarriesEnding, FollowsWith}
+use Rattle.rv32_core.specs.TouchedLines.{touched_lines}
+use Rattle.rv32_run.specs.Execution.{CarriesEnding, FollowsWith, IsMemoryEnding}
 use Rattle.rv32_run.specs.ExecutionView.{ExecutionView}
 use Rattle.rv32_run.specs.Progress.{StandsWith}
 use Rattle.rv32_run.specs.Trail.{IsTrail}
 use Rattle.counter_cache.specs.Counters.{most_blocks}
 use Rattle.line_cache.specs.LineCache.{most_held}
-use Rattle.page_reencrypt.specs.SealedLines.{geometry}
+use Rattle.page_reencrypt.specs.SealedLines.{enc_key, geometry}
 use Rattle.page_reencrypt.specs.Stops.{lasting_stop}
-use Rattle.secure_memory.specs.SecureRam.{IsMoved, IsQuiet, SecureRamView, cached_pages, contents, evidence, held_lines, stopped}
+use Rattle.secure_memory.specs.SecureRam.{IsMoved, IsQuiet, SecureRamView, cached_pages, contents, evidence, held_lines, made, stopped}
 use Rattle.secure_memory.specs.Moving.{moved_on}
 use Rattle.checked_bus.proofs.Makes.{same_tags}
-use Rattle.chip_run.specs.Run.{AreCounted, KeepsAccesses, RanProtected, ReadsByInstruction, Terms}
+use Rattle.chip_run.specs.ByInstruction.{GoesByInstruction}
+use Rattle.chip_run.specs.Run.{KeepsAccesses, RanProtected, Terms, basis_of}
 use Rattle.chip_run.specs.Running.{HandsOut, HasRunTo, HasStored, protected_by}
 use Rattle.chip_run.specs.declared.record.RunRecord.{RunRecord}
 use Rattle.chip_run.proofs.Closing.{stopped_tampered, unwritten_most}
 use Rattle.chip_run.proofs.Ends.{OfInstructions, OfMemory, ReadsTurnover, ran_protected}
 use Rattle.chip_run.proofs.Memories.{run_contents, run_memory, run_reads}
-use Rattle.chip_run.proofs.Pieces.{along, begins, none_retired, with_rest}
-use Rattle.chip_run.proofs.Runs.{ran_instructions}
+use Rattle.chip_run.proofs.Pieces.{along, begins, encrypts_as, encrypts_front, goes_as, none_retired, with_rest}
+use Rattle.chip_run.proofs.Runs.{opening_zeros, ran_instructions}
 use Rattle.chip_run.proofs.Turned.{IsBooted, few_begun, run_turned}
 
 -- the memory of a machine that was reached before its first instruction
@@ -47,17 +49,9 @@ module _ {B T : Type 0} (d n : T → List ℕ → List ℕ) (history : B → Bus
       IsMoved history bus_moved (tags_of d n) stored.booted lines last → HandsOut d n history last closed run → (history bus).lies ≡ 0 →
       CarriesEnding (stopped last) (Some run.ending) → OfMemory terms (history bus) (history closed) run
   stored_memory lines memory last closed run stored moved out honest carries =
-      subst (λ (tag_of : Message → List ℕ). OfMemory (record {
-        start = terms.start;
-        budget = terms.budget;
-        geometry = terms.geometry;
-        page_limit = terms.page_limit;
-        tag_of = tag_of;
-        enc_key = terms.enc_key;
-        report = terms.report;
-      }) (history bus) (history closed) run) (sym stored.tags)
-      (run_memory d n history bus_moved bus tagger terms.enc_key terms.geometry terms.page_limit stored.booted.lines last.lines stored.new moved.moves
-      terms.start terms.budget terms.report closed run honest out.protected out.made_is out.used_is out.few out.apart out.evidence_is out.bus_is carries moved.unread)
+      subst (λ (tag_of : Message → List ℕ). OfMemory (record terms { tag_of = tag_of }) (history bus) (history closed) run) (sym stored.tags)
+      (run_memory d n history bus_moved bus tagger terms stored.booted.lines last.lines stored.new moved.moves closed run honest out.protected
+      out.made_is out.used_is out.few out.apart out.evidence_is out.bus_is carries moved.unread)
 
   -- the tags of its engine are those of the run
   tags_are : (memory : SecureRamView B T) (stored : HasStored d n history bus_moved bus tagger terms memory) → tags_of d n stored.booted.lines.engine ≡ terms.tag_of
@@ -69,7 +63,7 @@ module _ {B T : Type 0} (d n : T → List ℕ → List ℕ) (history : B → Bus
   kept_accesses : (memory last : SecureRamView B T) (closed : B) (run : RunRecord) (stored : HasStored d n history bus_moved bus tagger terms memory) →
       (makes : MakesAccesses bus_moved (tags_of d n stored.booted.lines.engine) stored.booted.lines.bus stored.booted.lines.engine last.lines.bus last.lines.engine last.lines.stopped) →
       HandsOut d n history last closed run → CarriesEnding (stopped last) (Some run.ending) →
-      (run.evidence ≡ None → AreCounted (history closed) → ReadsByInstruction terms.start makes.accesses run) →
+      (run.evidence ≡ None → GoesByInstruction (basis_of terms) (history closed) makes.accesses run.made run.retired run.ending) →
       (accesses : List Access) × bus_moved bus accesses closed × KeepsAccesses terms (history closed) accesses run
   kept_accesses memory last closed run stored makes out carries reads =
       let new = stored.new in
@@ -94,13 +88,21 @@ module _ {B T : Type 0} (d n : T → List ℕ → List ℕ) (history : B → Bus
         },
       )
 
+  -- before its program was stored it has zeros
+  empty : (memory : SecureRamView B T) (stored : HasStored d n history bus_moved bus tagger terms memory) → contents stored.booted ≡ replicate (64 * line_count terms.geometry) 0
+  empty memory stored =
+      opening_zeros (enc_key stored.booted.lines) (geometry stored.booted.lines) terms.geometry (64 * line_count terms.geometry) (made stored.booted) stored.booted.ways
+      stored.new.unmade stored.new.geometry_is (omega arith) stored.none_held
+
   -- of a memory that stopped before the first instruction
   pub stored_accesses : (memory : SecureRamView B T) (closed : B) (run : RunRecord) (stored : HasStored d n history bus_moved bus tagger terms memory) →
-      HandsOut d n history memory closed run → CarriesEnding (stopped memory) (Some run.ending) → run.retired ≡ 0 →
+      HandsOut d n history memory closed run → CarriesEnding (stopped memory) (Some run.ending) → run.retired ≡ 0 → IsMemoryEnding run.ending →
       (accesses : List Access) × bus_moved bus accesses closed × KeepsAccesses terms (history closed) accesses run
-  stored_accesses memory closed run stored out carries retired =
+  stored_accesses memory closed run stored out carries retired ended =
       let makes = stored.stored.moves.trace (ap lasting_stop stored.new.going) in
-      kept_accesses memory memory closed run stored makes out carries (λ quiet counted. none_retired terms.start makes.accesses run retired)
+      kept_accesses memory memory closed run stored makes out carries (λ quiet. none_retired (basis_of terms) (history closed) makes.accesses run.made run.retired run.ending (contents memory) retired ended
+      (encrypts_front stored.front (encrypts_as (sym stored.new.key_is) out.made_is (sym (ap length stored.new.unmade)) (ap length out.made_is) refl
+      (sym (empty memory stored)) refl (stored.stored.encrypts (sym out.evidence_is ∙ quiet)))))
 
   -- few lines and counter blocks have copies in it, and what stands outside fits them
   stored_booted : (memory : SecureRamView B T) → HasStored d n history bus_moved bus tagger terms memory → IsBooted history bus_moved (tags_of d n) terms.geometry memory
@@ -146,14 +148,14 @@ module _ {B T : Type 0} (d n : T → List ℕ → List ℕ) (history : B → Bus
         went.first.memory now.memory went.ended.moved.lines went.ended.moved.moved went.begun.none_retired
         (begins_with terms.start _ went.first.retired there went.begun.none_retired)
         (stored_booted went.first.memory went.begun.stored) sound (went.ended.trail sound terms.start [] there) retired_is
-        (run_reads d n history bus_moved bus tagger terms.enc_key terms.geometry terms.page_limit went.begun.stored.booted.lines went.first.memory.lines
+        (run_reads d n history bus_moved bus tagger terms went.begun.stored.booted.lines went.first.memory.lines
         went.begun.stored.new went.begun.stored.stored.moves) out.bus_is
 
     instructions : OfInstructions terms printed (history bus) (history closed) run
     instructions =
         ran_instructions terms printed (history bus) (history closed) run now.retired now.budget ending now.memory.ways (contents now.memory) retired_is ending_is
         (went.ended.budget ∙ went.begun.budget)
-        (run_contents d n history bus_moved bus tagger terms.enc_key terms.geometry terms.page_limit went.begun.stored.booted.lines now.memory.lines
+        (run_contents d n history bus_moved bus tagger terms went.begun.stored.booted.lines now.memory.lines
         went.begun.stored.new ran_moved.moves run now.memory.ways out.made_is)
         out.few_held went.ended.within went.ended.budget_used went.ended.early follows turned
 
@@ -171,29 +173,29 @@ module _ {B T : Type 0} (d n : T → List ℕ → List ℕ) (history : B → Bus
       by_instructions quiet =
           let stored = went.begun.stored in
           let first = went.first.memory in
-          let engine = stored.booted.lines.engine in
           let sound = sound_to_end quiet in
-          let trail = went.ended.trail sound terms.start [] (begun_there sound) in
-          let sooner = stored.stored.moves.trace (ap lasting_stop stored.new.going) in
-          let has : HasAccesses (tags_of d n engine) engine first.lines.engine sooner.accesses None =
-          subst (λ (stop : Option MemStop). HasAccesses (tags_of d n engine) engine first.lines.engine sooner.accesses stop) went.begun.going sooner.has in
+          let there = begun_there sound in
+          let trail = went.ended.trail sound terms.start [] there in
           let all =
-          along d n history bus_moved bus_moved_on told terms.start stored.booted stored.new.unmade sooner.accesses trail.count first trail.last
-          (begins d n history bus_moved bus_moved_on told terms.start stored.booted stored.new.unmade sooner.accesses first went.begun.going
-          (begins_with terms.start _ went.first.retired (begun_there sound) went.begun.none_retired)
-          stored.stored.moves.step.geometry stored.stored.moves.step.tagger sooner.moved has (stored_booted first stored).few)
+          along d n history bus_moved bus_moved_on told (basis_of terms) stored.booted stored.new.unmade trail.count first trail.last
+          (begins d n history bus_moved bus_moved_on told (basis_of terms) stored.booted stored.new.unmade first
+          (subst (λ (lines : List ℕ). IsMoved history bus_moved (tags_of d n) stored.booted lines first) (stored.whole went.begun.going) stored.stored)
+          stored.new.going went.begun.going (went.ended.moved.lost sound) stored.new.key_is (empty first stored)
+          (begins_with terms.start _ went.first.retired there went.begun.none_retired) (stored_booted first stored).few)
           (was_none (evidence trail.last) (evidence now.memory) trail.rest.moves.step.evidence sound)
           (subst (λ (from : ℕ). IsTrail (λ m. stopped m) (λ m. contents m) (λ a xs b. IsMoved history bus_moved (tags_of d n) a xs b) terms.start from trail.count first trail.last)
           went.begun.none_retired trail.trail) in
+          let count : run.retired ≡ trail.count = omega (arith, retired_is, went.begun.none_retired, trail.counted) in
           let whole =
-          with_rest d n history bus_moved bus_moved_on told terms.start stored.booted stored.new.unmade sooner.accesses trail.count trail.last now.memory trail.lines run
-          all trail.rest (omega (arith, retired_is, went.begun.none_retired, trail.counted)) in
-          kept_accesses first now.memory closed run stored whole.0 out carries (λ none counted. whole.1 (subst (λ (b : B). AreCounted (history b)) out.bus_is counted))
+          with_rest d n history bus_moved bus_moved_on told (basis_of terms) stored.booted stored.new.unmade trail.count trail.last now.memory trail.lines run.ending all trail.rest
+          (subst (λ (k : ℕ). IsPrefix trail.lines (touched_lines (plain terms.start k).state)) (sym retired_is ∙ count) trail.unretired) sound
+          (λ going. (follows quiet).leaves going ∙ ap (λ (k : ℕ). (plain terms.start k).state.memory) count) in
+          kept_accesses first now.memory closed run stored whole.0 out carries (λ none. goes_as {accesses = whole.0.accesses} (ap history out.bus_is) out.made_is count whole.1)
 
       pub ran_accesses : (accesses : List Access) × bus_moved bus accesses closed × KeepsAccesses terms (history closed) accesses run
       ran_accesses = elim (some_or_none run.evidence) [
         | inl quiet ↦ by_instructions quiet
         | inr shown ↦
             let makes = ran_moved.moves.trace (ap lasting_stop went.begun.stored.new.going) in
-            kept_accesses went.first.memory now.memory closed run went.begun.stored makes out carries (λ quiet counted. let is = shown.1 in absurd (cc))
+            kept_accesses went.first.memory now.memory closed run went.begun.stored makes out carries (λ quiet. let is = shown.1 in absurd (cc))
       ]

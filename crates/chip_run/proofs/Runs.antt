@@ -29,7 +29,8 @@ use Rattle.cache_set.specs.Cache.{places}
 use Rattle.line_cache.specs.LineCache.{contents_over}
 use Rattle.line_cache.proofs.Lines.{over_nothing, over_unheld}
 use Rattle.cache_set.proofs.Bringing.{unheld_none}
-use Rattle.chip_run.specs.Run.{Terms, IsWrittenOut, most_left}
+use Rattle.chip_run.specs.ByInstruction.{most_left}
+use Rattle.chip_run.specs.Run.{Terms, IsWrittenOut}
 use Rattle.chip_run.specs.declared.record.RunRecord.{RunRecord}
 use Rattle.chip_run.proofs.Ends.{OfInstructions, ReadsTurnover}
 use Rattle.chip_run.proofs.Turned.{nothing_turned}
@@ -87,7 +88,7 @@ no_end_of_steps (tampered place) is = cc
 no_end_of_steps (spent page) is = cc
 no_end_of_steps no_memory is = cc
 
-by_memory : (stop : MemStop) → IsMemoryEnding (stop_ending stop)
+pub by_memory : (stop : MemStop) → IsMemoryEnding (stop_ending stop)
 by_memory (tampered place) = tt
 by_memory (spent page) = tt
 by_memory no_memory = tt

@@ -1,3 +1,4 @@
+pub mod ByInstruction
 pub mod Report
 pub mod Run
 pub mod Running

@@ -1,6 +1,5 @@
 -- What a run on protected memory comes to.
-use Rattle.std.specs.Prelude.{◌≡◌, ◌≢◌, ◌+◌, ◌-◌, ◌^◌, ◌<◌, ◌≤◌, ◌↔◌, ◌⊎◌, ◌++◌, ℕ, false, List, [], None, Some, IfSome, length, map, slice_index_or, take, Contains}
-use Rattle.std.specs.List.{flat_map}
+use Rattle.std.specs.Prelude.{◌≡◌, ◌≢◌, ◌+◌, ◌-◌, ◌^◌, ◌<◌, ◌≤◌, ◌↔◌, ◌⊎◌, ◌++◌, ℕ, List, None, Some, IfSome, length, map, Contains}
 use Rattle.sha2.specs.Sha256.{sha256}
 use Rattle.sec_base.specs.declared.counter.Counter.{Counter}
 use Rattle.sec_base.specs.declared.ending.Ending.{Ending}
@@ -10,7 +9,6 @@ use Rattle.sec_base.specs.declared.image.Image.{Image}
 use Rattle.sec_base.specs.declared.message.Message.{Message}
 use Rattle.sec_base.specs.declared.place.Place.{Place}
 use Rattle.sec_base.specs.declared.place.Place.TheVariants.{Line, Node}
-use Rattle.sec_base.specs.Count.{top}
 use Rattle.sec_base.specs.Evidence.{IsEvidence}
 use Rattle.sec_base.specs.Gain.{Gain}
 use Rattle.sec_base.specs.Geometry.{GeometryView, line_count, page_count}
@@ -18,30 +16,32 @@ use Rattle.sec_base.specs.LastMessage.{data_pairs}
 use Rattle.sec_base.specs.Lines.{line_at}
 use Rattle.sec_base.specs.Place.{IsPlace}
 use Rattle.sec_base.specs.Sink.{SinkState}
-use Rattle.bus_model.specs.Access.{Access, AreOf, EndsWithRead, reads_of, writes_in}
+use Rattle.bus_model.specs.Access.{Access, AreOf, EndsWithRead, writes_in}
 use Rattle.bus_model.specs.BusHistory.{BusHistory}
 use Rattle.bus_model.specs.FirstLie.{HonestOrCaught, IsOfFirstLie}
 use Rattle.pad_stream.specs.PadBlocks.{ShareNoBlock}
-use Rattle.pad_stream.specs.Pads.{AreRising, NoRepeat, of_lines}
+use Rattle.pad_stream.specs.Pads.{NoRepeat, of_lines}
 use Rattle.rv32_core.specs.Follows.{Follows, IsWhole}
 use Rattle.rv32_core.specs.Machine.{Machine, opening, plain}
-use Rattle.rv32_core.specs.TouchedLines.{touched_lines}
-use Rattle.rv32_core.specs.Turnover.{is_old, page_turnover, turnover}
+use Rattle.rv32_core.specs.Turnover.{page_turnover, turnover}
 use Rattle.rv32_run.specs.Execution.{IsMemoryEnding, IsStop}
 use Rattle.rv32_run.specs.Progress.{SinkEnds}
+use Rattle.rv32_run.specs.StoredLines.{image_lines}
 use Rattle.elf_load.specs.Measurement.{measurement_of}
 use Rattle.checked_bus.specs.Makes.{IsShownIn, access_of}
 use Rattle.bonsai_tree.specs.Tree.{NodesAreMade, NodesHoldLast, UnmadeAreUnread}
-use Rattle.page_reencrypt.specs.Contents.{ArePaged, AreUnskipped, AreWithin, HoldsLast, HoldsSealed, IsSpent, NodesSay, line_bytes}
+use Rattle.page_reencrypt.specs.Contents.{AreSuccessive, ArePaged, AreWithin, HoldsLast, HoldsSealed, IsSpent, NodesSay, line_bytes}
+use Rattle.chip_run.specs.ByInstruction.{Basis, GoesByInstruction, most_left}
 use Rattle.chip_run.specs.Report.{ReportTerms, signed_report}
 use Rattle.chip_run.specs.declared.record.RunRecord.{RunRecord}
 use Rattle.chip_run.specs.declared.record.Setup.{Setup}
 
--- What a run is of: the plain machine as the program begins on its input, how many instructions may be retired, the
--- geometry of the memory's tree, how high a page counter may rise, the tags of messages, the key that lines are
--- encrypted under, and what its report is of.
+-- What a run is of: the plain machine as the program begins on its input, the lines that storing the program touches, one for
+-- each store, how many instructions may be retired, the geometry of the memory's tree, how high a page counter may rise, the
+-- tags of messages, the key that lines are encrypted under, and what its report is of.
 pub record Terms : Type 0 where
   pub start : Machine
+  pub stored_lines : List ℕ
   pub budget : ℕ
   pub geometry : GeometryView
   pub page_limit : ℕ
@@ -53,6 +53,7 @@ pub record Terms : Type 0 where
 abbrev pub run_terms : Image → List ℕ → Setup → (Message → List ℕ) → Terms
 run_terms image input setup tag_of = record {
   start = opening image input;
+  stored_lines = image_lines image.segments;
   budget = setup.budget;
   geometry = setup.geometry;
   page_limit = setup.page_limit;
@@ -67,9 +68,14 @@ run_terms image input setup tag_of = record {
   };
 }
 
--- how many lines may stand on the chip alone as a run ends
-abbrev pub most_left : ℕ
-most_left = 128
+-- the basis of a run of it
+abbrev pub basis_of : Terms → Basis
+basis_of terms = record {
+  start = terms.start;
+  stored_lines = terms.stored_lines;
+  geometry = terms.geometry;
+  enc_key = terms.enc_key;
+}
 
 -- All lines but a few, at most as many as the chip can hold, have the memory's bytes.
 pub record IsWrittenOut (key : List ℕ) (lines : ℕ) (made : List Message) (memory : List ℕ) : Type 0 where
@@ -111,43 +117,6 @@ pub record KeepsLists (allowed : ℕ → Type 0) (terms : Terms) (after : BusHis
   pub holds_last : run.ending ≢ NoMemory → HoldsLast terms.tag_of (line_count terms.geometry) run.made after.written
   pub nodes_hold_last : run.ending ≢ NoMemory → NodesHoldLast terms.geometry run.made after.written
 
--- none of these accesses wrote to a place
-abbrev pub IsUnwritten : Place → List Access → Type 0
-IsUnwritten place accesses = AreOf (λ other. other ≢ place) (writes_in accesses)
-
--- the accesses of all pieces, in order
-abbrev pub joined : List (List Access) → List Access
-joined pieces = flat_map (λ piece. piece) pieces
-
--- A line was had for the instruction after so many: it was held before it, its place was read among the accesses of that
--- instruction, or nothing was written to its place before, and it is zeros in the plain machine's memory before that instruction.
-abbrev pub IsHadFor : Machine → List Access → List (List Access) → (ℕ → List ℕ) → ℕ → ℕ → Type 0
-IsHadFor start stored pieces held count line = Contains (held count) line
-    ⊎ ((0 < reads_of (Line line) (slice_index_or pieces count []))
-    ⊎ (IsUnwritten (Line line) (stored ++ joined (take count pieces)) × (is_old (plain start count).state.memory line ≡ false)))
-
--- Refused: a run that doesn't read the lines of an instruction for it. The accesses are those that stored the image, those of each
--- retired instruction, and those of the one that came to no end.
-pub record ReadsByInstruction (start : Machine) (accesses : List Access) (run : RunRecord) : Type 0 where
-  pub stored : List Access
-  pub pieces : List (List Access)
-  pub last : List Access
-  pub all : accesses ≡ stored ++ (joined pieces ++ last)
-  pub each : length pieces ≡ run.retired
-  -- Some lines, at most 128, are held at each time; these, once so many instructions were retired.
-  pub held : ℕ → List ℕ
-  pub few : (count : ℕ) → count ≤ run.retired → length (held count) ≤ most_left
-  -- Each line that an instruction touches, or that is among the held ones after it, was held before it, or its place was read for
-  -- it, or nothing was written to its place before and it is zeros.
-  pub touched : (count line : ℕ) → count < run.retired → Contains (touched_lines (plain start count).state) line →
-      IsHadFor start stored pieces held count line
-  pub kept : (count line : ℕ) → count < run.retired → Contains (held (count + 1)) line →
-      IsHadFor start stored pieces held count line
-
--- no line's place was read as often as a count can say
-abbrev pub AreCounted : BusHistory → Type 0
-AreCounted history = (line : ℕ) → history.reads (Line line) < top
-
 -- Refused: a list of messages that is not what was written to the bus, one by one. The accesses are all that the run made of its
 -- bus, in order.
 pub record KeepsAccesses (terms : Terms) (after : BusHistory) (accesses : List Access) (run : RunRecord) : Type 0 where
@@ -165,8 +134,8 @@ pub record KeepsAccesses (terms : Terms) (after : BusHistory) (accesses : List A
   pub shown : (evidence : Evidence) → run.evidence ≡ Some evidence → IsShownIn 0 accesses evidence
   -- a run that ended as tampering read that place last, also where there is evidence
   pub tampered : (place : Place) → run.ending ≡ Tampered place → EndsWithRead place accesses
-  -- where there is no evidence, and as far as counts of reads go, the lines of each instruction were held, or read for it, or zeros
-  pub by_instruction : run.evidence ≡ None → AreCounted after → ReadsByInstruction terms.start accesses run
+  -- without evidence each instruction had its lines, and the messages say what these had
+  pub by_instruction : run.evidence ≡ None → GoesByInstruction (basis_of terms) after accesses run.made run.retired run.ending
 
 -- the endings that come of the sink or of the emulator
 abbrev pub IsCutOff : Ending → Type 0
@@ -193,18 +162,16 @@ pub record FollowsPlain (terms : Terms) (printed : List ℕ) (after : BusHistory
 -- Refused: a pad that encrypts two lines, a page counter that was skipped, a page that is spent too early, and a node that
 -- says other tags or counters.
 pub record KeepsPads (terms : Terms) (run : RunRecord) : Type 0 where
-  -- no two entries of `used` are equal, and no two of their pads share an AES block: each line's counters rise, begin
-  -- behind that of a line that was never written, and keep to the limit; a page is spent only where one of its lines has
-  -- the last counter that the limit allows
+  -- no two entries of `used` are equal, and no two of their pads share an AES block: each line's counters are counted up, one
+  -- right after another, and keep to the limit; a page is spent only where one of its lines has the last counter that the
+  -- limit allows
   pub no_repeat : NoRepeat run.used
   pub pads_apart : ShareNoBlock terms.enc_key run.used
-  pub rising : AreRising run.used
+  pub successive : AreSuccessive run.used
   pub counters : AreWithin (line_count terms.geometry) terms.page_limit run.used
   pub spent : (page : ℕ) → run.ending ≡ Spent page → IsSpent (line_count terms.geometry) terms.page_limit run.used page
-  -- a line whose page counter is M was itself encrypted M times at least; the lines of a page have one page counter,
-  -- and where it is M they were encrypted 64 M times at least, unless the run ended in the middle of an overflow; so
-  -- under the default limit no page is ever spent
-  pub unskipped : AreUnskipped (line_count terms.geometry) run.used
+  -- the lines of a page have one page counter, and where it is M they were encrypted 64 M times at least, unless the run ended
+  -- in the middle of an overflow; so under the default limit no page is ever spent
   pub paged : ¬ EndsAnywhere run.ending → ArePaged (line_count terms.geometry) run.used
   pub unspent : terms.page_limit ≡ default_page_limit → (page : ℕ) → run.ending ≢ Spent page
   -- each time a node above level 0 was made, each of its slots had the tag of that child's last message, or zeros where the

@@ -2,6 +2,7 @@
 -- functions and proofs alone cite it.
 use Rattle.std.specs.Prelude.{◌≡◌, ◌*◌, ◌^◌, ◌<◌, ◌≤◌, ℕ, List, [], length, None}
 use Rattle.sec_base.specs.declared.ending.Ending.{Ending}
+use Rattle.sec_base.specs.Prefix.{IsPrefix}
 use Rattle.bus_model.specs.Access.{Access}
 use Rattle.bus_model.specs.BusHistory.{BusHistory}
 use Rattle.tag_engine.specs.Tag.{engine_tag}
@@ -12,7 +13,8 @@ use Rattle.rv32_run.specs.ExecutionView.{ExecutionView}
 use Rattle.rv32_run.specs.Progress.{GoesAlong, HasEnded, Semantics, StandsWith, semantics_of}
 use Rattle.page_reencrypt.specs.SealedLines.{AreNew, AreProtected, LinesFit, enc_key}
 use Rattle.secure_memory.specs.SecureRam.{IsMoved, IsQuiet, SecureRamView, cached_pages, contents, evidence, held_lines, lines_of, made, stopped, used}
-use Rattle.chip_run.specs.Run.{Terms, most_left}
+use Rattle.chip_run.specs.ByInstruction.{most_left}
+use Rattle.chip_run.specs.Run.{Terms}
 use Rattle.chip_run.specs.declared.record.RunRecord.{RunRecord}
 
 -- what a memory of messages with these tags means, over buses with these histories
@@ -33,6 +35,9 @@ pub record HasStored {B T : Type 0} (data_tag node_tag : T → List ℕ → List
   pub none_cached : cached_pages booted ≡ []
   pub lines : List ℕ
   pub stored : IsMoved history bus_moved (tags_of data_tag node_tag) booted lines memory
+  -- a front part of those that storing the program touches, and all of them unless the memory stopped
+  pub front : IsPrefix lines terms.stored_lines
+  pub whole : stopped memory ≡ None → lines ≡ terms.stored_lines
 
 -- A program stands in such a memory before its first instruction, where the plain machine begins.
 pub record HasBegun {P B T : Type 0} (core : P → CoreView) (data_tag node_tag : T → List ℕ → List ℕ) (history : B → BusHistory)

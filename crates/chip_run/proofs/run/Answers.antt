@@ -1,6 +1,7 @@
 use Rattle.std.proofs.Common.{Err, [], refl, sym, ap, ◌∙◌, subst}
 use Rattle.sha2.specs.Sha256.{sha256}
 use Rattle.sec_base.specs.declared.ending.Ending.{Ending}
+use Rattle.rv32_run.specs.Execution.{IsMemoryEnding}
 use Rattle.rv32_run.specs.Progress.{SinkEnds}
 use Rattle.rv32_run.proofs.Progress.{goes_to_end}
 use Rattle.secure_memory.specs.Moving.{moved_on, unmoved}
@@ -11,6 +12,7 @@ use Rattle.chip_run.specs.Run.{run_terms}
 use Rattle.chip_run.specs.Running.{HasRunTo, protected_by}
 use Rattle.chip_run.proofs.Closing.{ends_as_stop}
 use Rattle.chip_run.proofs.Memories.{no_accesses}
+use Rattle.chip_run.proofs.Runs.{by_memory}
 use Rattle.chip_run.proofs.Outcomes.{boot_refused, storing_stopped}
 use Rattle.chip_run.proofs.Ran.{ran, ran_accesses, stored_accesses, stored_memory}
 use Rattle.chip_run.proofs.Reports.{report_is}
@@ -62,6 +64,7 @@ returns-in-Err-Stopped-clause-accesses g c =
     stored_accesses g.T.Tagger.data_tag_of g.T.Tagger.node_tag_of g.B.Bus.history g.B.Bus.moved g.met.B.Bus.moved_on c.args.bus c.args.tagger _
     memory c.close.result.1 c.close.result.0 failed.0 c.close.ensures.hands_out
     (ends_as_stop _ stop c.close.result.0.ending failed.1 (c.close.ensures.ending ∙ c.ending_of-ending.ensures)) c.close.ensures.retired
+    (subst IsMemoryEnding (sym (c.close.ensures.ending ∙ c.ending_of-ending.ensures)) (by_memory stop))
 
 -- it ran to its end
 went : (g : Over) (c : goal.After-close-2 g) → HasRunTo (λ core. core) g.T.Tagger.data_tag_of g.T.Tagger.node_tag_of g.B.Bus.history g.B.Bus.moved c.args.bus c.args.tagger

@@ -1,4 +1,4 @@
-use Rattle.std.proofs.Common.{◌≡◌, refl, sym, ap, ◌∙◌, subst, arith}
+use Rattle.std.proofs.Common.{◌≡◌, [], refl, sym, ap, ◌∙◌, subst, arith, append-nil}
 use Rattle.rv32_run.proofs.Progress.{goes_not}
 use Rattle.rv32_run.proofs.Runs.{opening_begins}
 use Rattle.secure_memory.specs.Moving.{moved_on, unmoved}
@@ -41,6 +41,8 @@ returns-in-Ok-store_image-clause-begun g c =
               none_cached = booted.none_cached;
               lines = storing.moved.lines;
               stored = storing.moved.moved;
+              front = ([], sym storing.moved.touched ∙ sym (append-nil storing.moved.lines));
+              whole = λ going. storing.moved.touched;
             });
         going = ap (λ memory. stopped memory) began.memory ∙ storing.goes_on;
         stands = λ sound.
@@ -71,6 +73,8 @@ returns-in-Err-store_image-clause-stopped g c = λ memory stop is.
         none_cached = booted.none_cached;
         lines = storing.moved.lines;
         stored = storing.moved.moved;
+        front = storing.moved.touched;
+        whole = λ going. let stops = storing.stops in absurd (cc);
       },
       storing.stops,
     )
