@@ -8,3 +8,4 @@ pub mod Writes
 pub mod Stands
 pub mod Endings
 pub mod Outputs
+pub mod Kept
