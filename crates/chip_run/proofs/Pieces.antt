@@ -447,7 +447,8 @@ module _ {B T : Type 0} (d n : T → List ℕ → List ℕ) (history : B → Bus
           encrypts_stored = encrypts_on (rest.moves.step.more, rest.moves.step.made) (within_made count now all 0) refl refl all.encrypts_stored;
           encrypts = λ at below. encrypts_on (rest.moves.step.more, rest.moves.step.made) (within_made count now all (at + 1)) refl refl (all.encrypts at below);
           encrypts_last = (
-            contents end, leaves,
+            contents end,
+            leaves,
             inl (encrypts_front unretired (encrypts_as (sym all.key) refl (made_is count now all) refl refl (sym all.bytes) refl (rest.encrypts quiet))),
           );
         },
