@@ -4,7 +4,8 @@
 Accesses to the memory outside are counted by kind (read or write) and place (data lines, counter blocks, and nodes by
 their level). Storing the program and running it are counted apart. Boot makes none.
 
---trace prints a line for each access, by the number that scripts call it by.
+--trace prints a line for each access, by the number that scripts call it by, and when it is made. --list prints these lines
+alone, without when, as trace.py --list does of a run's trace.
 --plot draws the accesses over the instructions retired, as NAME.accesses.svg in this folder.
 --check N compares the model with the program chip at N random accesses: a script rolls the memory back to power-on before
 the access, and the run must then end at the next read of a place that was written, as the model names it.
@@ -31,7 +32,8 @@ def arguments():
     parser.add_argument("--levels", type=int, metavar="L", help="1 to 8, default 4; under layout 2 1 to 5, default 3")
     parser.add_argument("--input", metavar="F", help="the file that the program reads")
     parser.add_argument("--steps", type=int, default=10000000, metavar="N", help="default 10000000")
-    parser.add_argument("--trace", action="store_true", help="a line for each access")
+    parser.add_argument("--trace", action="store_true", help="a line for each access, and when it is made")
+    parser.add_argument("--list", action="store_true", help="a line for each access alone, as trace.py --list")
     parser.add_argument("--plot", action="store_true", help="draw NAME.accesses.svg")
     parser.add_argument("--check", type=int, default=0, metavar="N", help="compare N accesses with the program")
     parser.add_argument("--program", metavar="PATH", help="the program chip; else this checkout's")
@@ -43,23 +45,20 @@ def arguments():
     return options
 
 
-def place_of(level, index):
-    """A place, as scripts and `tampered` name it."""
-    return f"data {index}" if level is model.DATA else f"node {level} {index}"
-
-
 class Log:
     """What was seen of a run: each access, where the machine stood, and what it counts."""
 
-    def __init__(self, is_traced, is_kept):
-        self.machine, self.is_traced, self.is_kept = None, is_traced, is_kept
+    def __init__(self, is_traced, is_listed, is_kept):
+        self.machine, self.is_traced, self.is_listed, self.is_kept = None, is_traced, is_listed, is_kept
         self.accesses, self.first = [], None
 
     def see(self, number, kind, level, index):
         machine = self.machine
-        if self.is_traced:
+        if self.is_listed:
+            print(model.listed(number, kind, level, index))
+        elif self.is_traced:
             when = f"pc {machine.pc:08x} retired {machine.retired}" if machine and machine.is_running else "storing"
-            print(f"access {number}: {kind} {place_of(level, index)}  {when}")
+            print(f"{model.listed(number, kind, level, index)}  {when}")
         if self.is_kept:
             self.accesses.append((kind, level, index, machine.retired if machine else 0))
 
@@ -73,7 +72,7 @@ def observed(options):
         sys.exit(f"accesses: {fault.filename}: {fault.strerror}")
     except model.Refused as fault:
         sys.exit(f"accesses: {options.file}: {fault}")
-    log = Log(options.trace, options.check or options.plot)
+    log = Log(options.trace, options.list, options.check or options.plot)
     machine = model.Machine(program, options.shape, given, log.see)
     log.machine = machine
     memory = machine.memory
@@ -82,10 +81,6 @@ def observed(options):
 
 
 # --- the counts ------------------------------------------------------------------------------------------------------
-
-
-def name_of(level):
-    return {model.DATA: "data lines", 0: "counter blocks"}.get(level, f"nodes of level {level}")
 
 
 def report(machine, ending, before):
@@ -100,7 +95,7 @@ def report(machine, ending, before):
     for level in [model.DATA, *range(memory.shape.levels + 1)]:
         counts = [count[kind, level] for count in (storing, running) for kind in ("read", "write")]
         if any(counts):
-            print(f"{name_of(level):<18} " + " ".join(f"{count:>9,}" for count in counts))
+            print(f"{model.name_of(level):<18} " + " ".join(f"{count:>9,}" for count in counts))
     hit = memory.hits - hits
     if machine.retired:
         print(f"accesses per instruction: {ran / machine.retired:.4f}")
@@ -143,7 +138,7 @@ def first_false(accesses, chosen):
         if kind == "write":
             fresh.add((level, index))
         elif (level, index) not in fresh:
-            return place_of(level, index), retired
+            return model.place_of(level, index), retired
     return None
 
 
@@ -172,7 +167,8 @@ def check(options, machine, ending, log):
 def main():
     options = arguments()
     machine, ending, before, log = observed(options)
-    report(machine, ending, before)
+    if not options.list:
+        report(machine, ending, before)
     if options.plot:
         plot(options, machine, log, before[0])
     return check(options, machine, ending, log) if options.check else 0

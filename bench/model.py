@@ -69,6 +69,20 @@ def shapes(layout):
     return [Shape(layout, levels) for levels in range(1, LAYOUTS[layout].most_levels + 1)]
 
 
+def place_of(level, index):
+    """A place, as scripts and `tampered` name it."""
+    return f"data {index}" if level is DATA else f"node {level} {index}"
+
+
+def name_of(level):
+    return {DATA: "data lines", 0: "counter blocks"}.get(level, f"nodes of level {level}")
+
+
+def listed(number, kind, level, index):
+    """The line of an access, by the number that scripts call it by."""
+    return f"access {number}: {kind} {place_of(level, index)}"
+
+
 def size_text(size):
     kib = size // 1024
     return f"{kib} KiB" if kib < 1024 else f"{kib // 1024} MiB"
