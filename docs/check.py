@@ -33,7 +33,8 @@ TEST = "crates/test_gallery/src/tests.rt"
 RECORDS = "crates/chip_run/specs/Run.antt"
 THEOREM, PROOFS, CODE_PAGE = "docs/THEOREM.md", "docs/PROOFS.md", "docs/CODE.md"
 GENERATED = ["docs/CONTRACTS.md", "docs/DEFINITIONS.md", *sorted(glob.glob("docs/definitions/*.md", root_dir=TOP))]
-WITH_COMMANDS = ["README.md", "examples/README.md", GALLERY, "docs/C-PROGRAMS.md", "docs/FORMATS.md", "bench/README.md"]
+TRACES = "examples/traces/README.md"
+WITH_COMMANDS = ["README.md", "examples/README.md", GALLERY, TRACES, "docs/C-PROGRAMS.md", "docs/FORMATS.md", "bench/README.md"]
 # CHANGELOG names what is gone; generated pages have their names from the sources.
 WITHOUT_NAMES = ["CHANGELOG.md", *GENERATED]
 README_WORDS, ALL_WORDS = 1700, 30000
