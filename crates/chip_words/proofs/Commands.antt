@@ -15,9 +15,9 @@ use Rattle.clap.specs.Faults.{check_fault, defaults_fault, entered_fault, level_
 use Rattle.clap.specs.declared.builder.value_parser.ValueParser.TheVariants.{Unsigned}
 use Rattle.clap.proofs.ValueTestLemmas.{accepts-Accepts}
 use Rattle.std.proofs.lemmas.Slice.Eq.{bytes_eq-Decides}
-use Rattle.chip_words.specs.App.{chip_app, file_rule, key_rule, layout_rule, levels_rule, nonce_rule, number_rule, page_limit_rule, steps_rule, tags_rule}
+use Rattle.chip_words.specs.App.{chip_app, file_rule, key_rule, layout_rule, levels_rule, nonce_rule, number_rule, page_limit_rule, steps_rule, tags_rule, trace_rule}
 use Rattle.chip_words.specs.Request.{number_of, numeral_value, value_of}
-use Rattle.chip_words.specs.Commands.{HasExecution, HasItsValues, HasNumber, HasProgram, HasProtectedRun, HasReport, HasValue, HasWorkload, IfCommand, IsWithin}
+use Rattle.chip_words.specs.Commands.{HasExecution, HasItsValues, HasJudgement, HasNumber, HasProgram, HasProtectedRun, HasReport, HasValue, HasWorkload, IfCommand, IsWithin}
 use Rattle.chip_words.proofs.Walks.{IsNoHelp, both_empty}
 use Rattle.chip_words.proofs.Fits.{AllFit, HasSome, IsIn, Owns, defaults_have, finished_fits, first_passes, row_found, walk_fits}
 
@@ -148,6 +148,9 @@ page_limit_built = filled page_limit_rule
 abbrev number_built : Rule
 number_built = with_index 1 (filled number_rule)
 
+abbrev trace_built : Rule
+trace_built = with_index 2 (filled trace_rule)
+
 -- a command that takes a file, a layout and levels, whatever else it takes
 program_there : (s : Shape) (words : List Text) → IsFaultless s words → s.subcommand_negates_reqs ≡ false
     → IsIn file_built s.rules → arg_by_id s.rules (codes "file") ≡ Some file_built
@@ -174,8 +177,9 @@ execution_there s words clean program in_steps own_steps =
       steps = (number_there 0 (2 ^ 64 - 1) (codes "steps") steps.0 (rows_after s.rules [] words) steps.1 steps.2).0;
     }
 
-abbrev pub run_built : Shape
-run_built = slice_index_or (built chip_app).subs 0 help_shape
+-- `run` and `trace`, by their names
+abbrev pub protected_built : Text → Shape
+protected_built name = record (slice_index_or (built chip_app).subs 0 help_shape) { name = name }
 
 abbrev pub plain_built : Shape
 plain_built = slice_index_or (built chip_app).subs 1 help_shape
@@ -194,11 +198,18 @@ verify_built = slice_index_or (built chip_app).subs 5 help_shape
 abbrev bench_built : Shape
 bench_built = slice_index_or (built chip_app).subs 6 help_shape
 
-run_owns : Owns run_built.rules run_built.rules
-run_owns = ((refl, λ takes. refl), ((refl, λ takes. absurd cc), ((refl, λ takes. refl), ((refl, λ takes. refl), ((refl, λ takes. refl), ((refl, λ takes. refl), ((refl, λ takes. refl), ((refl, λ takes. refl), ((refl, λ takes. refl), ((refl, λ takes. refl), ((refl, λ takes. refl), ((refl, λ takes. absurd cc), tt))))))))))))
+-- `judge`
+abbrev pub judge_built : Shape
+judge_built = slice_index_or (built chip_app).subs 8 help_shape
+
+protected_owns : (name : Text) → Owns (protected_built name).rules (protected_built name).rules
+protected_owns name = ((refl, λ takes. refl), ((refl, λ takes. absurd cc), ((refl, λ takes. refl), ((refl, λ takes. refl), ((refl, λ takes. refl), ((refl, λ takes. refl), ((refl, λ takes. refl), ((refl, λ takes. refl), ((refl, λ takes. refl), ((refl, λ takes. refl), ((refl, λ takes. refl), ((refl, λ takes. absurd cc), tt))))))))))))
 
 plain_owns : Owns plain_built.rules plain_built.rules
 plain_owns = ((refl, λ takes. refl), ((refl, λ takes. absurd cc), ((refl, λ takes. refl), ((refl, λ takes. refl), ((refl, λ takes. refl), ((refl, λ takes. refl), ((refl, λ takes. absurd cc), tt)))))))
+
+judge_owns : Owns judge_built.rules judge_built.rules
+judge_owns = ((refl, λ takes. refl), ((refl, λ takes. absurd cc), ((refl, λ takes. refl), ((refl, λ takes. refl), ((refl, λ takes. refl), ((refl, λ takes. refl), ((refl, λ takes. refl), ((refl, λ takes. absurd cc), tt))))))))
 
 asm_owns : Owns asm_built.rules asm_built.rules
 asm_owns = ((refl, λ takes. refl), ((refl, λ takes. refl), ((refl, λ takes. refl), ((refl, λ takes. absurd cc), tt))))
@@ -212,10 +223,11 @@ bench_owns = ((refl, λ takes. refl), ((refl, λ takes. absurd cc), tt))
 inspection_owns : (name : Text) → Owns (inspection_built name).rules (inspection_built name).rules
 inspection_owns name = ((refl, λ takes. refl), ((refl, λ takes. absurd cc), ((refl, λ takes. refl), ((refl, λ takes. refl), ((refl, λ takes. absurd cc), tt)))))
 
-run_has : (words : List Text) → level_fault run_built [] nothing_held words false [] ≡ [] → HasProtectedRun (rows_after run_built.rules [] words)
-run_has words e =
-    let s = run_built in
-    let clean = faultless s words run_owns e in
+protected_has : (name : Text) (words : List Text) → level_fault (protected_built name) [] nothing_held words false [] ≡ []
+    → HasProtectedRun (rows_after (protected_built name).rules [] words)
+protected_has name words e =
+    let s = protected_built name in
+    let clean = faultless s words (protected_owns name) e in
     let program = program_there s words clean refl (inl refl) refl (inr (inr (inl refl))) refl refl in
     let key = default_passed s words key_built clean (inr (inr (inr (inr (inr (inr (inr (inl refl)))))))) tt refl refl in
     let nonce = default_passed s words nonce_built clean (inr (inr (inr (inr (inr (inr (inr (inr (inl refl))))))))) tt refl refl in
@@ -235,6 +247,17 @@ plain_has words e =
     let clean = faultless s words plain_owns e in
     let program = program_there s words clean refl (inl refl) refl (inr (inr (inl refl))) refl refl in
     execution_there s words clean program (inr (inr (inr (inr (inr (inl refl)))))) refl
+
+judge_has : (words : List Text) → level_fault judge_built [] nothing_held words false [] ≡ [] → HasJudgement (rows_after judge_built.rules [] words)
+judge_has words e =
+    let s = judge_built in
+    let clean = faultless s words judge_owns e in
+    let program = program_there s words clean refl (inl refl) refl (inr (inr (inl refl))) refl refl in
+    let trace = required_passed s words trace_built clean refl (inr (inr (inr (inr (inr (inr (inl refl))))))) refl refl refl in
+    record {
+      execution = execution_there s words clean program (inr (inr (inr (inr (inr (inl refl)))))) refl;
+      trace = value_there (codes "trace") trace.0 (rows_after s.rules [] words) trace.1;
+    }
 
 asm_has : (words : List Text) → level_fault asm_built [] nothing_held words false [] ≡ [] → HasProgram (rows_after asm_built.rules [] words)
 asm_has words e =
@@ -268,9 +291,9 @@ bench_has words e =
     below : (n : ℕ) → n ≤ 2 ^ 32 - 1 → n < 2 ^ 32
     below n most = omega arith
 
-as_run : (words : List Text) → level_fault run_built [] nothing_held words false [] ≡ []
-    → HasItsValues (codes "run") (rows_after run_built.rules [] words)
-as_run words e = let h = run_has words e in record {
+as_run : (words : List Text) → level_fault (protected_built (codes "run")) [] nothing_held words false [] ≡ []
+    → HasItsValues (codes "run") (rows_after (protected_built (codes "run")).rules [] words)
+as_run words e = let h = protected_has (codes "run") words e in record {
   run = λ is. h;
   plain = λ is. absurd cc;
   asm = λ is. absurd cc;
@@ -278,6 +301,8 @@ as_run words e = let h = run_has words e in record {
   measure = λ is. absurd cc;
   verify = λ is. absurd cc;
   bench = λ is. absurd cc;
+  trace = λ is. absurd cc;
+  judge = λ is. absurd cc;
 }
 
 as_plain : (words : List Text) → level_fault plain_built [] nothing_held words false [] ≡ []
@@ -290,6 +315,8 @@ as_plain words e = let h = plain_has words e in record {
   measure = λ is. absurd cc;
   verify = λ is. absurd cc;
   bench = λ is. absurd cc;
+  trace = λ is. absurd cc;
+  judge = λ is. absurd cc;
 }
 
 as_assembly : (words : List Text) → level_fault asm_built [] nothing_held words false [] ≡ []
@@ -302,6 +329,8 @@ as_assembly words e = let h = asm_has words e in record {
   measure = λ is. absurd cc;
   verify = λ is. absurd cc;
   bench = λ is. absurd cc;
+  trace = λ is. absurd cc;
+  judge = λ is. absurd cc;
 }
 
 as_dis : (words : List Text) → level_fault (inspection_built (codes "dis")) [] nothing_held words false [] ≡ []
@@ -314,6 +343,8 @@ as_dis words e = let h = inspection_has (codes "dis") words e in record {
   measure = λ is. absurd cc;
   verify = λ is. absurd cc;
   bench = λ is. absurd cc;
+  trace = λ is. absurd cc;
+  judge = λ is. absurd cc;
 }
 
 as_measure : (words : List Text) → level_fault (inspection_built (codes "measure")) [] nothing_held words false [] ≡ []
@@ -326,6 +357,8 @@ as_measure words e = let h = inspection_has (codes "measure") words e in record 
   measure = λ is. h;
   verify = λ is. absurd cc;
   bench = λ is. absurd cc;
+  trace = λ is. absurd cc;
+  judge = λ is. absurd cc;
 }
 
 as_verification : (words : List Text) → level_fault verify_built [] nothing_held words false [] ≡ []
@@ -338,6 +371,8 @@ as_verification words e = let h = verify_has words e in record {
   measure = λ is. absurd cc;
   verify = λ is. h;
   bench = λ is. absurd cc;
+  trace = λ is. absurd cc;
+  judge = λ is. absurd cc;
 }
 
 as_bench : (words : List Text) → level_fault bench_built [] nothing_held words false [] ≡ []
@@ -350,15 +385,45 @@ as_bench words e = let h = bench_has words e in record {
   measure = λ is. absurd cc;
   verify = λ is. absurd cc;
   bench = λ is. h;
+  trace = λ is. absurd cc;
+  judge = λ is. absurd cc;
 }
 
--- the command that was met is one of the seven, and has its values
+as_trace : (words : List Text) → level_fault (protected_built (codes "trace")) [] nothing_held words false [] ≡ []
+    → HasItsValues (codes "trace") (rows_after (protected_built (codes "trace")).rules [] words)
+as_trace words e = let h = protected_has (codes "trace") words e in record {
+  run = λ is. absurd cc;
+  plain = λ is. absurd cc;
+  asm = λ is. absurd cc;
+  dis = λ is. absurd cc;
+  measure = λ is. absurd cc;
+  verify = λ is. absurd cc;
+  bench = λ is. absurd cc;
+  trace = λ is. h;
+  judge = λ is. absurd cc;
+}
+
+as_judge : (words : List Text) → level_fault judge_built [] nothing_held words false [] ≡ []
+    → HasItsValues (codes "judge") (rows_after judge_built.rules [] words)
+as_judge words e = let h = judge_has words e in record {
+  run = λ is. absurd cc;
+  plain = λ is. absurd cc;
+  asm = λ is. absurd cc;
+  dis = λ is. absurd cc;
+  measure = λ is. absurd cc;
+  verify = λ is. absurd cc;
+  bench = λ is. absurd cc;
+  trace = λ is. absurd cc;
+  judge = λ is. h;
+}
+
+-- the command that was met is one of the nine, and has its values
 pub command_has : (stop : Option (Text × List Text)) → IsNoHelp stop → entered_fault (built chip_app) stop ≡ [] → IfCommand (entered (built chip_app) stop)
 command_has None free e = tt
 command_has (Some p) free e =
     go (bytes_eq (codes "run") p.0) refl (bytes_eq (codes "plain") p.0) refl (bytes_eq (codes "asm") p.0) refl (bytes_eq (codes "dis") p.0) refl
     (bytes_eq (codes "measure") p.0) refl (bytes_eq (codes "verify") p.0) refl (bytes_eq (codes "bench") p.0) refl
-    (bytes_eq (codes "help") p.0) refl
+    (bytes_eq (codes "trace") p.0) refl (bytes_eq (codes "judge") p.0) refl (bytes_eq (codes "help") p.0) refl
   where
     help_is : bytes_eq (codes "help") p.0 ≡ true → bytes_eq p.0 (codes "help") ≡ true
     help_is is = (bytes_eq-Decides p.0 (codes "help")).1 (sym ((bytes_eq-Decides (codes "help") p.0).0 is))
@@ -366,14 +431,19 @@ command_has (Some p) free e =
     go : (a : Bool) → bytes_eq (codes "run") p.0 ≡ a → (b : Bool) → bytes_eq (codes "plain") p.0 ≡ b
         → (c : Bool) → bytes_eq (codes "asm") p.0 ≡ c → (d : Bool) → bytes_eq (codes "dis") p.0 ≡ d
         → (m : Bool) → bytes_eq (codes "measure") p.0 ≡ m → (k : Bool) → bytes_eq (codes "verify") p.0 ≡ k
-        → (n : Bool) → bytes_eq (codes "bench") p.0 ≡ n → (h : Bool) → bytes_eq (codes "help") p.0 ≡ h
+        → (n : Bool) → bytes_eq (codes "bench") p.0 ≡ n → (i : Bool) → bytes_eq (codes "trace") p.0 ≡ i
+        → (j : Bool) → bytes_eq (codes "judge") p.0 ≡ j → (h : Bool) → bytes_eq (codes "help") p.0 ≡ h
         → IfCommand (entered (built chip_app) (Some p))
-    go true x b y c z d u m v k q n t h w = rw x (as_run p.1 (rw x at e))
-    go false x true y c z d u m v k q n t h w = rw (x, y) (as_plain p.1 (rw (x, y) at e))
-    go false x false y true z d u m v k q n t h w = rw (x, y, z) (as_assembly p.1 (rw (x, y, z) at e))
-    go false x false y false z true u m v k q n t h w = rw (x, y, z, u) (as_dis p.1 (rw (x, y, z, u) at e))
-    go false x false y false z false u true v k q n t h w = rw (x, y, z, u, v) (as_measure p.1 (rw (x, y, z, u, v) at e))
-    go false x false y false z false u false v true q n t h w = rw (x, y, z, u, v, q) (as_verification p.1 (rw (x, y, z, u, v, q) at e))
-    go false x false y false z false u false v false q true t h w = rw (x, y, z, u, v, q, t) (as_bench p.1 (rw (x, y, z, u, v, q, t) at e))
-    go false x false y false z false u false v false q false t true w = absurd (let bad = rw (help_is w) at free in cc)
-    go false x false y false z false u false v false q false t false w = rw (x, y, z, u, v, q, t, w) tt
+    go true x b y c z d u m v k q n t i r j o h w = rw x (as_run p.1 (rw x at e))
+    go false x true y c z d u m v k q n t i r j o h w = rw (x, y) (as_plain p.1 (rw (x, y) at e))
+    go false x false y true z d u m v k q n t i r j o h w = rw (x, y, z) (as_assembly p.1 (rw (x, y, z) at e))
+    go false x false y false z true u m v k q n t i r j o h w = rw (x, y, z, u) (as_dis p.1 (rw (x, y, z, u) at e))
+    go false x false y false z false u true v k q n t i r j o h w = rw (x, y, z, u, v) (as_measure p.1 (rw (x, y, z, u, v) at e))
+    go false x false y false z false u false v true q n t i r j o h w = rw (x, y, z, u, v, q) (as_verification p.1 (rw (x, y, z, u, v, q) at e))
+    go false x false y false z false u false v false q true t i r j o h w = rw (x, y, z, u, v, q, t) (as_bench p.1 (rw (x, y, z, u, v, q, t) at e))
+    go false x false y false z false u false v false q false t true r j o h w =
+        rw (x, y, z, u, v, q, t, r) (as_trace p.1 (rw (x, y, z, u, v, q, t, r) at e))
+    go false x false y false z false u false v false q false t false r true o h w =
+        rw (x, y, z, u, v, q, t, r, o) (as_judge p.1 (rw (x, y, z, u, v, q, t, r, o) at e))
+    go false x false y false z false u false v false q false t false r false o true w = absurd (let bad = rw (help_is w) at free in cc)
+    go false x false y false z false u false v false q false t false r false o false w = rw (x, y, z, u, v, q, t, r, o, w) tt

@@ -4,5 +4,6 @@ pub mod Walks
 pub mod Flags
 pub mod Fits
 pub mod Commands
+pub mod CommandMet
 pub mod Requests
 pub mod DefaultRuns

@@ -88,6 +88,10 @@ number_rule = record (new_rule (codes "number")) {
   required = true;
 }
 
+-- `TRACE`, behind `FILE`, which a command can't do without
+abbrev pub trace_rule : Rule
+trace_rule = record (new_rule (codes "trace")) { value_names = 1; required = true }
+
 -- what `asm` takes
 abbrev pub assembly_rules : List Rule
 assembly_rules = file_rule ∷ layout_rule ∷ levels_rule ∷ []
@@ -100,10 +104,14 @@ inspection_rules = file_rule ∷ flat_rule ∷ layout_rule ∷ levels_rule ∷ [
 abbrev pub execution_rules : List Rule
 execution_rules = inspection_rules ++ input_rule ∷ steps_rule ∷ []
 
--- what `run` takes
+-- what `run` and `trace` take
 abbrev pub protected_run_rules : List Rule
 protected_run_rules =
     execution_rules ++ script_rule ∷ key_rule ∷ nonce_rule ∷ tags_rule ∷ page_limit_rule ∷ []
+
+-- what `judge` takes
+abbrev pub judgement_rules : List Rule
+judgement_rules = execution_rules ++ trace_rule ∷ []
 
 -- what `verify` takes
 abbrev pub verification_rules : List Rule
@@ -117,9 +125,10 @@ bench_rules = number_rule ∷ []
 abbrev pub command : Text → List Rule → Shape
 command name rules = record (new_shape name) { rules = rules }
 
--- the program, which needs a command, and shows its help where it is given nothing
-abbrev pub chip_app : App
-chip_app = record {
+-- the program with the commands that have nothing to do with traces; it needs a command, and shows its help where it is
+-- given nothing
+abbrev pub untraced_app : App
+untraced_app = record {
   top = record (new_shape (codes "chip")) {
     is_leaf = false;
     subcommand_required = true;
@@ -132,5 +141,14 @@ chip_app = record {
       ∷ command (codes "measure") inspection_rules
       ∷ command (codes "verify") verification_rules
       ∷ command (codes "bench") bench_rules
+      ∷ [];
+}
+
+-- the program with all its commands
+abbrev pub chip_app : App
+chip_app = record untraced_app {
+  subs = untraced_app.subs
+      ++ command (codes "trace") protected_run_rules
+      ∷ command (codes "judge") judgement_rules
       ∷ [];
 }

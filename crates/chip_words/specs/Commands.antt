@@ -39,6 +39,11 @@ pub record HasProtectedRun (values : List Row) : Type 0 where
   pub tags : HasValue (codes "tags") values
   pub page_limit : HasNumber (codes "page-limit") values
 
+-- which program to run, for how many steps at most, and which trace
+pub record HasJudgement (values : List Row) : Type 0 where
+  pub execution : HasExecution values
+  pub trace : HasValue (codes "trace") values
+
 -- which report, and under which key
 pub record HasReport (values : List Row) : Type 0 where
   pub file : HasValue (codes "file") values
@@ -58,6 +63,8 @@ pub record HasItsValues (name : Text) (values : List Row) : Type 0 where
   pub measure : bytes_eq name (codes "measure") ≡ true → HasProgram values
   pub verify : bytes_eq name (codes "verify") ≡ true → HasReport values
   pub bench : bytes_eq name (codes "bench") ≡ true → HasWorkload values
+  pub trace : bytes_eq name (codes "trace") ≡ true → HasProtectedRun values
+  pub judge : bytes_eq name (codes "judge") ≡ true → HasJudgement values
 
 -- a command, where there is one, has the values that it can't do without
 abbrev pub IfCommand : Option (Text × List Row) → Type 0

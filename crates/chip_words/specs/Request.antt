@@ -39,6 +39,11 @@ pub record RunAsked : Type 0 where
   pub script : Option Text
   pub terms : Terms
 
+-- a trace's file, and what its run was to execute, and how
+pub record JudgeAsked : Type 0 where
+  pub execution : ExecutionAsked
+  pub trace : Text
+
 -- a report's file, and the key of the device that it is checked for
 pub record ReportAsked : Type 0 where
   pub name : Text
@@ -53,6 +58,8 @@ pub data Asked : Type 0 where
   to_measure : FileAsked → Asked
   to_verify : ReportAsked → Asked
   to_bench : ℕ → Asked
+  to_trace : RunAsked → Asked
+  to_judge : JudgeAsked → Asked
 
 -- why words ask for nothing: `clap` doesn't take them; or it does, and a value of theirs is refused
 pub data WordsFault : Type 0 where
@@ -68,6 +75,8 @@ asked_program (to_disassemble file) = Some file
 asked_program (to_measure file) = Some file
 asked_program (to_verify report) = None
 asked_program (to_bench number) = None
+asked_program (to_trace run) = Some run.execution.file
+asked_program (to_judge judge) = Some judge.execution.file
 
 -- the number of a request's generated program, where it asks for one
 abbrev pub asked_number : Asked → Option ℕ
@@ -124,6 +133,10 @@ number_of values = numeral_value (value_of (codes "number") values)
 -- the name of the adversary's script, where one is named
 abbrev pub script_name_of : List Row → Option Text
 script_name_of values = first_of (codes "script") values
+
+-- the name of the trace
+abbrev pub trace_name_of : List Row → Text
+trace_name_of values = value_of (codes "trace") values
 
 -- ---- the values that `clap` takes and that may be refused all the same, each tested after the ones before it
 
@@ -193,6 +206,11 @@ abbrev pub run_of : List Row → GeometryView → Terms → RunAsked
 run_of values geometry terms =
     record { execution = execution_of values geometry; script = script_name_of values; terms = terms }
 
+-- the judgement of the trace that these values name, as one of a run of the program
+abbrev pub judgement_of : List Row → GeometryView → JudgeAsked
+judgement_of values geometry =
+    record { execution = execution_of values geometry; trace = trace_name_of values }
+
 -- the report that these values name, and the device key to check it under
 abbrev pub report_of : List Row → List ℕ → ReportAsked
 report_of values key = record { name = value_of (codes "file") values; device_key = key }
@@ -236,10 +254,28 @@ asked_to_verify values = do
   key ← device_key_of values
   Ok (to_verify (report_of values key))
 
+-- `trace`
+abbrev pub asked_to_trace : List Row → Result Asked ValueFault
+asked_to_trace values = do
+  geometry ← geometry_of values
+  terms ← terms_of values
+  Ok (to_trace (run_of values geometry terms))
+
+-- `judge`
+abbrev pub asked_to_judge : List Row → Result Asked ValueFault
+asked_to_judge values = do
+  geometry ← geometry_of values
+  Ok (to_judge (judgement_of values geometry))
+
 -- the fault of a value is one of the words
 abbrev pub by_values : Result Asked ValueFault → Result Asked WordsFault
 by_values (Ok asked) = Ok asked
 by_values (Err fault) = Err (wrong_value fault)
+
+-- what the command of this name asks for, with these values, where a trace is made or judged
+abbrev pub asked_of_trace : Text → List Row → Result Asked WordsFault
+asked_of_trace name values = if bytes_eq name (codes "trace") then by_values (asked_to_trace values)
+    else (if bytes_eq name (codes "judge") then by_values (asked_to_judge values) else Err not_taken)
 
 -- what the command of this name asks for, with these values
 abbrev pub asked_by : Text → List Row → Result Asked WordsFault
@@ -249,7 +285,7 @@ asked_by name values = if bytes_eq name (codes "run") then by_values (asked_to_r
     else (if bytes_eq name (codes "dis") then by_values (asked_to_disassemble values)
     else (if bytes_eq name (codes "measure") then by_values (asked_to_measure values)
     else (if bytes_eq name (codes "verify") then by_values (asked_to_verify values)
-    else (if bytes_eq name (codes "bench") then Ok (to_bench (number_of values)) else Err not_taken))))))
+    else (if bytes_eq name (codes "bench") then Ok (to_bench (number_of values)) else asked_of_trace name values))))))
 
 -- what a command asks for, where there is one
 abbrev pub asked_in : Option (Text × List Row) → Result Asked WordsFault

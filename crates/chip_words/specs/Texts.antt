@@ -17,6 +17,8 @@ use Rattle.sec_base.specs.declared.geometry.Layout.{Layout}
 use Rattle.attest_report.specs.ToldLayout.{layout_number}
 use Rattle.attest_report.specs.declared.report.Report.{Report}
 use Rattle.attest_report.specs.declared.report.Signed.{Signed}
+use Rattle.bus_trace.specs.declared.verdict.Difference.{Difference}
+use Rattle.bus_trace.specs.declared.verdict.Difference.TheVariants.{Lie, Retired, Output, Ending as ending_differs}
 use Rattle.chip_words.specs.Fault.{value_fault_name}
 use Rattle.chip_words.specs.declared.fault.ValueFault.{ValueFault}
 
@@ -134,9 +136,26 @@ abbrev pub script_fault_line : ℕ → ℕ → List ℕ → List ℕ
 script_fault_line line code name =
     codes "refused script " ++ decimal line ++ codes " " ++ decimal code ++ codes " " ++ name ++ codes "\n"
 
+-- the refusal of a trace: the number and name of the broken rule
+abbrev pub trace_fault_line : ℕ → List ℕ → List ℕ
+trace_fault_line code name = codes "refused trace " ++ decimal code ++ codes " " ++ name ++ codes "\n"
+
 -- the refusal of a report: the number and name of the broken rule
 abbrev pub report_fault_line : ℕ → List ℕ → List ℕ
 report_fault_line code name = codes "refused report " ++ decimal code ++ codes " " ++ name ++ codes "\n"
+
+-- ---- judged traces
+
+-- the line of a trace that follows
+abbrev pub follows_line : List ℕ
+follows_line = codes "judged follows\n"
+
+-- the line of a trace that doesn't: what of it comes first that can't be; of a lie, the number of its entry
+abbrev pub difference_line : Difference → List ℕ
+difference_line (Lie number) = codes "judged no lie " ++ decimal number ++ codes "\n"
+difference_line Retired = codes "judged no retired\n"
+difference_line Output = codes "judged no output\n"
+difference_line ending_differs = codes "judged no ending\n"
 
 -- ---- reports
 

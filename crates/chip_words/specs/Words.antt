@@ -2,16 +2,17 @@
 use Rattle.std.specs.Prelude.{◌≡◌, List, map, option_map, Result, Ok, Err, ⊤}
 use Rattle.std.specs.Borrow.{Bor}
 use Rattle.clap.specs.Walk.{Text}
-use Rattle.chip_words.specs.Request.{Asked, ExecutionAsked, FileAsked, ReportAsked, RunAsked, WordsFault, to_assemble, to_bench, to_disassemble, to_measure, to_run, to_run_plain, to_verify, wrong_value, not_taken}
+use Rattle.chip_words.specs.Request.{Asked, ExecutionAsked, FileAsked, JudgeAsked, ReportAsked, RunAsked, WordsFault, to_assemble, to_bench, to_disassemble, to_judge, to_measure, to_run, to_run_plain, to_trace, to_verify, wrong_value, not_taken}
 use Rattle.chip_words.specs.declared.fault.ValueFault.{ValueFault}
 use Rattle.chip_words.specs.declared.fault.WordsError.{WordsError}
 use Rattle.chip_words.specs.declared.fault.WordsError.TheVariants.{Usage, WrongValue, NoMemory}
 use Rattle.chip_words.specs.declared.request.Execution.{Execution}
+use Rattle.chip_words.specs.declared.request.JudgedTrace.{JudgedTrace}
 use Rattle.chip_words.specs.declared.request.ProgramFile.{ProgramFile}
 use Rattle.chip_words.specs.declared.request.ProtectedRun.{ProtectedRun}
 use Rattle.chip_words.specs.declared.request.ReportFile.{ReportFile}
 use Rattle.chip_words.specs.declared.request.Request.{Request}
-use Rattle.chip_words.specs.declared.request.Request.TheVariants.{Run, Plain, Asm, Dis, Measure, Verify, Bench}
+use Rattle.chip_words.specs.declared.request.Request.TheVariants.{Run, Plain, Asm, Dis, Measure, Verify, Bench, Trace, Judge}
 
 -- what the words point to
 abbrev pub texts : List (Bor Text) → List Text
@@ -37,6 +38,11 @@ run_asked run = record {
   terms = run.terms;
 }
 
+-- the judgement of a trace as the clauses see it: what to execute, and the trace's file
+abbrev pub judge_asked : JudgedTrace → JudgeAsked
+judge_asked judge =
+    record { execution = execution_asked judge.execution; trace = judge.trace.now }
+
 -- the check of a report as the clauses see it: the file and the device key
 abbrev pub report_asked : ReportFile → ReportAsked
 report_asked report = record { name = report.name.now; device_key = report.device_key }
@@ -50,6 +56,8 @@ asked (Dis file) = to_disassemble (file_asked file)
 asked (Measure file) = to_measure (file_asked file)
 asked (Verify report) = to_verify (report_asked report)
 asked (Bench number) = to_bench number
+asked (Trace run) = to_trace (run_asked run)
+asked (Judge judge) = to_judge (judge_asked judge)
 
 -- what the values of a command come to
 abbrev pub answer_asked : Result Request ValueFault → Result Asked WordsFault

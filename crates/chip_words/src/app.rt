@@ -3,8 +3,8 @@ ghost use Rattle.std.specs.Prelude.{◌≡◌, [], IfOk, false};
 ghost use Rattle.clap.specs.Walk.{rule_of};
 ghost use Rattle.clap.specs.Simple.{app_of, shape_of};
 ghost use Rattle.clap.specs.declared.builder.command.Command.TheViews.{out-Command as fields_of};
-ghost use Rattle.chip_words.specs.App.{assembly_rules, bench_rules, chip_app, command, execution_rules, inspection_rules, protected_run_rules, verification_rules};
-ghost use Rattle.chip_words.specs.App.{file_rule, flat_rule, input_rule, key_rule, layout_rule, levels_rule, nonce_rule, number_rule, page_limit_rule, script_rule, steps_rule, tags_rule};
+ghost use Rattle.chip_words.specs.App.{assembly_rules, bench_rules, chip_app, command, execution_rules, inspection_rules, judgement_rules, protected_run_rules, untraced_app, verification_rules};
+ghost use Rattle.chip_words.specs.App.{file_rule, flat_rule, input_rule, key_rule, layout_rule, levels_rule, nonce_rule, number_rule, page_limit_rule, script_rule, steps_rule, tags_rule, trace_rule};
 
 use crate::defaults::{
     DEVICE_KEY_TEXT, LAYOUT_TEXT, NONCE_TEXT, PAGE_LIMIT_TEXT, STEPS_TEXT, TAGS_TEXT,
@@ -12,30 +12,35 @@ use crate::defaults::{
 use clap::{Arg, ArgAction, Command, value_parser};
 use std::alloc::{AllocError, Global};
 
+const TRACE_ABOUT: &str = "Runs a program on protected memory, and writes down what its bus saw";
+
 pub(crate) fn app<'a>(alloc: Global) -> Result<Command<'a>, AllocError>
     ensures { IfOk result (λ app. app_of app ≡ chip_app) }
 {
-    let run = protected_run(alloc, "run", "Runs a program on protected memory")?;
-    let plain = execution(alloc, "plain", "Runs a program on the plain machine")?;
-    let asm = assembly(alloc, "asm", "Makes the ELF file of an assembly text")?;
-    let dis = inspection(alloc, "dis", "Lists the instructions of a program")?;
-    let measure = inspection(alloc, "measure", "Tells the measurement of a program")?;
-    let verify = verification(alloc, "verify", "Checks a report and tells what it says")?;
-    let bench = workload(
-        alloc,
-        "bench",
-        "Runs a generated program on protected memory",
-    )?;
+    let app = untraced(alloc)?
+        .subcommand(protected_run(alloc, "trace", TRACE_ABOUT)?)?
+        .subcommand(judgement(alloc, "judge", "Judges a trace")?)?;
+    Ok(app)
+}
+
+// The program with the commands that have nothing to do with traces.
+fn untraced<'a>(alloc: Global) -> Result<Command<'a>, AllocError>
+    ensures { IfOk result (λ app. app_of app ≡ untraced_app) }
+{
     let app = Command::new(alloc, "chip")
         .subcommand_required(true)
         .arg_required_else_help(true)
-        .subcommand(run)?
-        .subcommand(plain)?
-        .subcommand(asm)?
-        .subcommand(dis)?
-        .subcommand(measure)?
-        .subcommand(verify)?
-        .subcommand(bench)?;
+        .subcommand(protected_run(alloc, "run", "Runs a program on protected memory")?)?
+        .subcommand(execution(alloc, "plain", "Runs a program on the plain machine")?)?
+        .subcommand(assembly(alloc, "asm", "Makes the ELF file of an assembly text")?)?
+        .subcommand(inspection(alloc, "dis", "Lists the instructions of a program")?)?
+        .subcommand(inspection(alloc, "measure", "Tells the measurement of a program")?)?
+        .subcommand(verification(alloc, "verify", "Checks a report and tells what it says")?)?
+        .subcommand(workload(
+            alloc,
+            "bench",
+            "Runs a generated program on protected memory",
+        )?)?;
     Ok(app)
 }
 
@@ -65,6 +70,15 @@ fn execution<'a>(alloc: Global, name: &'a str, about: &'a str) -> Result<Command
     let command = inspection(alloc, name, about)?
         .arg(input(alloc))?
         .arg(steps(alloc))?;
+    Ok(command)
+}
+
+// A command that judges the trace of a program's run.
+fn judgement<'a>(alloc: Global, name: &'a str, about: &'a str) -> Result<Command<'a>, AllocError>
+    ensures shape { IfOk result (λ c. shape_of c ≡ command name.entry.now judgement_rules) }
+    ensures local { IfOk result (λ c. (fields_of c).has_globals ≡ false) }
+{
+    let command = execution(alloc, name, about)?.arg(trace(alloc))?;
     Ok(command)
 }
 
@@ -124,6 +138,16 @@ fn file<'a>(alloc: Global, help: &'a str) -> Arg<'a>
         .value_name("FILE")
         .required(true)
         .help(help)
+}
+
+fn trace<'a>(alloc: Global) -> Arg<'a>
+    ensures rule { rule_of result ≡ trace_rule }
+    ensures local { result.global ≡ false }
+{
+    Arg::new(alloc, "trace")
+        .value_name("TRACE")
+        .required(true)
+        .help("The trace")
 }
 
 fn number<'a>(alloc: Global) -> Arg<'a>

@@ -21,6 +21,7 @@ mod report_fields;
 mod request;
 mod summary;
 mod values;
+mod verdict_lines;
 
 use clap::Error;
 use clap::error::ErrorKind;
@@ -30,14 +31,16 @@ pub use lines::write_line;
 pub use note::{RunNote, tell_plain, tell_run};
 pub use refusal_lines::{
     asm_fault_line, elf_fault_line, long_file_line, read_fault_line, report_fault_line,
-    script_fault_line, tag_differs_line, tell_usage, value_fault_line,
+    script_fault_line, tag_differs_line, tell_usage, trace_fault_line, value_fault_line,
 };
 pub use report_fields::write_fields;
 pub use request::{
-    Execution, ProgramFile, ProgramForm, ProtectedRun, ReportFile, Request, Tags, Terms,
+    Execution, JudgedTrace, ProgramFile, ProgramForm, ProtectedRun, ReportFile, Request, Tags,
+    Terms,
 };
 use std::alloc::Global;
 pub use summary::write_summary;
+pub use verdict_lines::{difference_line, follows_line};
 
 /// What the words of the process ask for, the program's name first. A question for help is refused too, and its answer is
 /// the text.

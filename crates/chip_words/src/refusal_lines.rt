@@ -73,6 +73,13 @@ pub fn script_fault_line(
     format!(in alloc; "refused script {line} {code} {name}\n")
 }
 
+/// The line of a file that is no trace for the memory.
+pub fn trace_fault_line(alloc: Global, code: u8, name: &str) -> Result<String, AllocError>
+    ensures { IfOk result (λ line. string_bytes line ≡ spec.trace_fault_line code name.now) }
+{
+    format!(in alloc; "refused trace {code} {name}\n")
+}
+
 /// The line of a text that has no form of a report.
 pub fn report_fault_line(alloc: Global, code: u8, name: &str) -> Result<String, AllocError>
     ensures { IfOk result (λ line. string_bytes line ≡ spec.report_fault_line code name.now) }

@@ -18,6 +18,10 @@ pub enum Request<'a> {
     Verify(ReportFile<'a>),
     /// To run the generated program of this number on protected memory.
     Bench(u32),
+    /// To run a program on protected memory, and to write down what its bus was asked and answered.
+    Trace(ProtectedRun<'a>),
+    /// To judge a trace.
+    Judge(JudgedTrace<'a>),
 }
 
 /// What is to be run on protected memory, and on what terms.
@@ -29,6 +33,15 @@ pub struct ProtectedRun<'a> {
     pub script: Option<&'a str>,
     /// How its memory is protected.
     pub terms: Terms,
+}
+
+/// A trace's file, and what its run was to execute, and how.
+#[derive(Clone, Copy, Debug, PartialEq, Eq)]
+pub struct JudgedTrace<'a> {
+    /// What was to be run, and how.
+    pub execution: Execution<'a>,
+    /// The trace's file.
+    pub trace: &'a str,
 }
 
 /// How the memory of a run is protected.

@@ -1,15 +1,17 @@
 // What a command is asked for, by its values.
-ghost use Rattle.std.specs.Prelude.{◌≡◌, IsTrue, codes, option_map};
+ghost use Rattle.std.specs.Prelude.{◌≡◌, IsTrue, codes, option_map, true};
+ghost use Rattle.std.specs.Str.{bytes_eq};
 ghost use Rattle.clap.specs.Walk.{first_of, rows_of};
 ghost use Rattle.clap.specs.Words.{found_of, subcommand_rows_of};
-ghost use Rattle.chip_words.specs.Commands.{HasExecution, HasNumber, HasProgram, HasProtectedRun, HasReport, HasValue, HasWorkload, IfCommand};
-ghost use Rattle.chip_words.specs.Request.{asked_in, asked_to_assemble, asked_to_disassemble, asked_to_measure, asked_to_run, asked_to_run_plain, asked_to_verify, by_values, device_key_of, execution_of, file_of, form_of, geometry_of, is_flat as is_flat_in, is_taken, layout_of, levels_of, nonce_of, number_of, numeral_value, program_of, report_of, run_of, tags_of, terms_of, value_of};
-ghost use Rattle.chip_words.specs.Words.{answer_asked, execution_asked, file_asked, report_asked, run_asked};
+ghost use Rattle.chip_words.specs.Commands.{HasExecution, HasJudgement, HasNumber, HasProgram, HasProtectedRun, HasReport, HasValue, HasWorkload, IfCommand};
+ghost use Rattle.chip_words.specs.Request.{asked_in, asked_of_trace, asked_to_assemble, asked_to_disassemble, asked_to_judge, asked_to_measure, asked_to_run, asked_to_run_plain, asked_to_trace, asked_to_verify, by_values, device_key_of, execution_of, file_of, form_of, geometry_of, is_flat as is_flat_in, is_taken, judgement_of, layout_of, levels_of, nonce_of, number_of, numeral_value, program_of, report_of, run_of, tags_of, terms_of, value_of};
+ghost use Rattle.chip_words.specs.Words.{answer_asked, execution_asked, file_asked, judge_asked, report_asked, run_asked};
 
 use crate::defaults::default_levels;
 use crate::fault::ValueFault;
 use crate::request::{
-    Execution, ProgramFile, ProgramForm, ProtectedRun, ReportFile, Request, Tags, Terms,
+    Execution, JudgedTrace, ProgramFile, ProgramForm, ProtectedRun, ReportFile, Request, Tags,
+    Terms,
 };
 use clap::ArgMatches;
 use hex::FromHex;
@@ -30,6 +32,22 @@ pub(crate) fn requested<'a>(matches: &ArgMatches<'a>) -> Result<Request<'a>, Val
         "measure" => measurement_request(values),
         "verify" => report_request(values),
         "bench" => Ok(Request::Bench(workload_number(values))),
+        _ => request_of_trace(name, values),
+    }
+}
+
+// What `trace` or `judge` asks for.
+fn request_of_trace<'a>(name: &str, values: &ArgMatches<'a>) -> Result<Request<'a>, ValueFault>
+    requires taken { IsTrue (is_taken (asked_of_trace name.now (rows_of (found_of values.now)))) }
+    requires trace { bytes_eq name.now (codes "trace") ≡ true
+        → HasProtectedRun (rows_of (found_of values.now)) }
+    requires judge { bytes_eq name.now (codes "judge") ≡ true
+        → HasJudgement (rows_of (found_of values.now)) }
+    ensures { asked_of_trace name.now (rows_of (found_of values.now)) ≡ answer_asked result }
+{
+    match name {
+        "trace" => trace_request(values),
+        "judge" => judgement_request(values),
         _ => unreachable!(),
     }
 }
@@ -81,6 +99,22 @@ fn report_request<'a>(values: &ArgMatches<'a>) -> Result<Request<'a>, ValueFault
     ensures { answer_asked result ≡ by_values (asked_to_verify (rows_of (found_of values.now))) }
 {
     Ok(Request::Verify(report_file(values, device_key(values)?)))
+}
+
+// `trace`. The memory's shape is tested before the terms.
+fn trace_request<'a>(values: &ArgMatches<'a>) -> Result<Request<'a>, ValueFault>
+    requires { HasProtectedRun (rows_of (found_of values.now)) }
+    ensures { answer_asked result ≡ by_values (asked_to_trace (rows_of (found_of values.now))) }
+{
+    Ok(Request::Trace(protected_run(values, geometry(values)?, terms(values)?)))
+}
+
+// `judge`.
+fn judgement_request<'a>(values: &ArgMatches<'a>) -> Result<Request<'a>, ValueFault>
+    requires { HasJudgement (rows_of (found_of values.now)) }
+    ensures { answer_asked result ≡ by_values (asked_to_judge (rows_of (found_of values.now))) }
+{
+    Ok(Request::Judge(judged_trace(values, geometry(values)?)))
 }
 
 fn protected_run<'a>(values: &ArgMatches<'a>, geometry: Geometry, terms: Terms) -> ProtectedRun<'a>
@@ -142,6 +176,16 @@ fn report_file<'a>(values: &ArgMatches<'a>, device_key: [u8; 32]) -> ReportFile<
     ReportFile {
         name: value(values, "file"),
         device_key,
+    }
+}
+
+fn judged_trace<'a>(values: &ArgMatches<'a>, geometry: Geometry) -> JudgedTrace<'a>
+    requires { HasJudgement (rows_of (found_of values.now)) }
+    ensures { judge_asked result ≡ judgement_of (rows_of (found_of values.now)) geometry }
+{
+    JudgedTrace {
+        execution: execution(values, geometry),
+        trace: value(values, "trace"),
     }
 }
 

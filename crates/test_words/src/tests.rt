@@ -2,10 +2,11 @@
 // stands anywhere behind its command, its value stands in the next word or behind `=`, after `--` no word is an option,
 // and no option stands twice.
 use self::Shape::{Refused, Tree, WrongLevels};
+use bus_trace::Difference;
 use chip_words::ProgramForm::{AssemblyText, ElfFile, FlatFile};
 use chip_words::{
     Execution, ProgramFile, ProgramForm, Request, Tags, ValueFault, WordsError, default_run,
-    read_words,
+    difference_line, follows_line, read_words, trace_fault_line,
 };
 use sec_base::Layout::{One, Two};
 use sec_base::{Geometry, Layout};
@@ -23,6 +24,8 @@ fn parts<'a>(request: &Request<'a>) -> Option<Parts<'a>> {
         Request::Asm(file) => Some(file_parts("asm", file)),
         Request::Dis(file) => Some(file_parts("dis", file)),
         Request::Measure(file) => Some(file_parts("measure", file)),
+        Request::Trace(run) => Some(execution_parts("trace", &run.execution)),
+        Request::Judge(judged) => Some(execution_parts("judge", &judged.execution)),
         Request::Verify(_) | Request::Bench(_) => None,
     }
 }
@@ -68,7 +71,7 @@ fn is_refused(alloc: Global, line: &str) -> Result<bool, AllocError> {
 
 #[test]
 fn requests(rt: HostRuntime) -> Result<(), Fail> {
-    let rows: [(&str, Parts<'_>); 18] = [
+    let rows: [(&str, Parts<'_>); 22] = [
         ("chip run p", ("run", "p", ElfFile, None, 4, 10_000_000)),
         (
             "chip run p --flat",
@@ -120,6 +123,19 @@ fn requests(rt: HostRuntime) -> Result<(), Fail> {
             "chip asm --levels 2 measure",
             ("asm", "measure", AssemblyText, None, 2, 0),
         ),
+        ("chip trace p", ("trace", "p", ElfFile, None, 4, 10_000_000)),
+        (
+            "chip trace --levels 2 judge --input i --flat --steps 3",
+            ("trace", "judge", FlatFile, Some("i"), 2, 3),
+        ),
+        (
+            "chip judge p t",
+            ("judge", "p", ElfFile, None, 4, 10_000_000),
+        ),
+        (
+            "chip judge --levels 2 p --input i --flat t --steps 3",
+            ("judge", "p", FlatFile, Some("i"), 2, 3),
+        ),
     ];
     for (line, expected) in rows {
         assert!(rt; asks_for(rt.alloc(), line, expected)?, "{line}");
@@ -138,7 +154,8 @@ enum Shape {
 
 fn geometry(request: &Request<'_>) -> Option<Geometry> {
     match request {
-        Request::Run(run) => Some(run.execution.file.geometry),
+        Request::Run(run) | Request::Trace(run) => Some(run.execution.file.geometry),
+        Request::Judge(judged) => Some(judged.execution.file.geometry),
         Request::Plain(execution) => Some(execution.file.geometry),
         Request::Asm(file) | Request::Dis(file) | Request::Measure(file) => Some(file.geometry),
         Request::Verify(_) | Request::Bench(_) => None,
@@ -168,8 +185,17 @@ fn shape_of(alloc: Global, line: &str) -> Result<Option<Shape>, AllocError> {
 
 // Whether the options come to this shape behind each command that takes a program.
 fn comes_to(alloc: Global, options: &str, expected: Shape) -> Result<bool, AllocError> {
-    for command in ["run", "plain", "asm", "dis", "measure"] {
-        let line = format!(in alloc; "chip {command} p {options}")?;
+    let commands = [
+        "run p",
+        "plain p",
+        "asm p",
+        "dis p",
+        "measure p",
+        "trace p",
+        "judge p t",
+    ];
+    for command in commands {
+        let line = format!(in alloc; "chip {command} {options}")?;
         if shape_of(alloc, line.as_str())? != Some(expected) {
             return Ok(false);
         }
@@ -345,7 +371,19 @@ fn wrong_values(rt: HostRuntime) -> Result<(), Fail> {
         ("chip run p --nonce 00 --levels 2", Some(ValueFault::Nonce)),
         ("chip run p --nonce=", Some(ValueFault::Nonce)),
         ("chip verify r --key 00", Some(ValueFault::Key)),
+        ("chip trace p --tags md5", Some(ValueFault::Tags)),
+        ("chip trace p --key 00", Some(ValueFault::Key)),
+        ("chip trace p --nonce 00", Some(ValueFault::Nonce)),
+        ("chip judge p t --tags md5", None),
         ("chip run p --layout 2 --levels 6", Some(ValueFault::Levels)),
+        (
+            "chip trace p --layout 2 --levels 6 --tags md5",
+            Some(ValueFault::Levels),
+        ),
+        (
+            "chip judge p t --layout 2 --levels 6",
+            Some(ValueFault::Levels),
+        ),
         (
             "chip measure p --layout 2 --levels 8",
             Some(ValueFault::Levels),
@@ -493,6 +531,88 @@ fn reports_to_check(rt: HostRuntime) -> Result<(), Fail> {
     Ok(())
 }
 
+// A run that is traced has every option of a run.
+#[test]
+fn traced_runs(rt: HostRuntime) -> Result<(), Fail> {
+    let words = [
+        "chip",
+        "trace",
+        "p",
+        "--script",
+        "s",
+        "--tags",
+        "xor",
+        "--page-limit",
+        "7",
+        "--key",
+        KEY_DIGITS,
+        "--nonce",
+        NONCE_DIGITS,
+    ];
+    let Ok(Request::Trace(run)) = read_words(rt.alloc(), &words) else {
+        return Err(Fail::from("no trace"));
+    };
+    assert_eq!(rt; run.script, Some("s"));
+    assert_eq!(rt; run.terms.tags, Tags::Xor);
+    assert_eq!(rt; run.terms.page_limit, 7);
+    for (byte, expected) in run.terms.device_key.iter().zip((0xe0..=0xff).rev()) {
+        assert_eq!(rt; *byte, expected);
+    }
+    for (byte, expected) in run.terms.nonce.iter().zip(0x10..=0x1f) {
+        assert_eq!(rt; *byte, expected);
+    }
+    Ok(())
+}
+
+// Whether a line of words asks to judge this trace of this program.
+fn judges(alloc: Global, line: &str, program: &str, trace: &str) -> Result<bool, AllocError> {
+    let words: Vec<&str> = line.split_whitespace().collect(alloc)?;
+    let Ok(Request::Judge(judged)) = read_words(alloc, words.as_slice()) else {
+        return Ok(false);
+    };
+    Ok((judged.execution.file.name, judged.trace) == (program, trace))
+}
+
+// The first word that is no option and no option's value is the program, and the second is the trace.
+#[test]
+fn traces_to_judge(rt: HostRuntime) -> Result<(), Fail> {
+    let rows = [
+        ("chip judge p t", "p", "t"),
+        ("chip judge t p", "t", "p"),
+        ("chip judge p p", "p", "p"),
+        ("chip judge --steps 3 p --input i t", "p", "t"),
+        ("chip judge p --flat t --levels 2 --layout 2", "p", "t"),
+        ("chip judge -- --flat --steps", "--flat", "--steps"),
+        ("chip judge p -- --flat", "p", "--flat"),
+    ];
+    for (line, program, trace) in rows {
+        assert!(rt; judges(rt.alloc(), line, program, trace)?, "{line}");
+    }
+    Ok(())
+}
+
+#[test]
+fn lines_of_judged_traces(rt: HostRuntime) -> Result<(), Fail> {
+    assert_eq!(rt; follows_line(), "judged follows\n");
+    let rows = [
+        (Difference::Lie(1), "judged no lie 1\n"),
+        (
+            Difference::Lie(u64::MAX),
+            "judged no lie 18446744073709551615\n",
+        ),
+        (Difference::Retired, "judged no retired\n"),
+        (Difference::Output, "judged no output\n"),
+        (Difference::Ending, "judged no ending\n"),
+    ];
+    for (difference, expected) in rows {
+        let line = difference_line(rt.alloc(), difference)?;
+        assert_eq!(rt; line.as_str(), expected);
+    }
+    let line = trace_fault_line(rt.alloc(), 7, "tail")?;
+    assert_eq!(rt; line.as_str(), "refused trace 7 tail\n");
+    Ok(())
+}
+
 // The number of the generated program that a line of words asks for.
 fn workload(alloc: Global, line: &str) -> Result<Option<u32>, AllocError> {
     let words: Vec<&str> = line.split_whitespace().collect(alloc)?;
@@ -612,6 +732,23 @@ fn refusals(rt: HostRuntime) -> Result<(), Fail> {
         "chip bench 0 --layout 1",
         "chip bench 0 --layout 2",
         "chip bench 1 --flat",
+        "chip trace",
+        "chip trace --flat",
+        "chip trace p t",
+        "chip trace p --levels 9",
+        "chip trace p --key 00 --key 00",
+        "chip judge",
+        "chip judge p",
+        "chip judge --flat p",
+        "chip judge p t u",
+        "chip judge p t --script s",
+        "chip judge p t --key 00",
+        "chip judge p t --nonce 00",
+        "chip judge p t --tags xor",
+        "chip judge p t --page-limit 1",
+        "chip judge p --trace t",
+        "chip judge p t --levels 9",
+        "chip judge p t --steps",
         "chip assemble p",
         "chip --flat run p",
         "chip frob",
@@ -655,9 +792,33 @@ Options:
   -h, --help          Print help
 ";
 
+// The program stands before the trace.
+const JUDGE_HELP: &str = "\
+Judges a trace
+
+Usage: chip judge [OPTIONS] <FILE> <TRACE>
+
+Arguments:
+  <FILE>   The program
+  <TRACE>  The trace
+
+Options:
+      --flat          FILE has the program's bytes and nothing else; without this it is an ELF file
+      --layout <1|2>  The layout of the memory's tree: 1, of four children a node, or 2, of eight [default: 1]
+      --levels <L>    The levels of the memory's tree: 1 to 8, by default 4; of layout 2 1 to 5, by default 3
+      --input <F>     The program's input, empty by default
+      --steps <N>     How many instructions may be retired [default: 10000000]
+  -h, --help          Print help
+";
+
 #[test]
 fn help_of_a_command(rt: HostRuntime) -> Result<(), Fail> {
     let text = usage(rt.alloc(), "chip asm --help")?.ok_or("no text")?;
     assert_eq!(rt; text.as_str(), ASM_HELP);
+    let text = usage(rt.alloc(), "chip judge --help")?.ok_or("no text")?;
+    assert_eq!(rt; text.as_str(), JUDGE_HELP);
+    let text = usage(rt.alloc(), "chip trace --help")?.ok_or("no text")?;
+    let first = "Runs a program on protected memory, and writes down what its bus saw\n";
+    assert!(rt; text.as_str().starts_with(first), "{text}");
     Ok(())
 }
