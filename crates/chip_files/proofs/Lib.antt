@@ -1,4 +1,5 @@
 pub mod Lengths
 pub mod Takings
 pub mod Accepted
+pub mod Judged
 pub mod Verdicts

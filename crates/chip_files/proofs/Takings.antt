@@ -18,7 +18,7 @@ use Rattle.chip_words.specs.declared.request.ProgramForm.{ProgramForm}
 use Rattle.chip_words.specs.declared.request.ProgramForm.TheVariants.{ElfFile, FlatFile, AssemblyText}
 use Rattle.sec_base.specs.Program.{IsImageOf, Program}
 use Rattle.chip_files.specs.declared.refusal.Refusal.{Refusal}
-use Rattle.chip_files.specs.declared.refusal.Refusal.TheVariants.{Usage, WrongValue, Unread, TooLong, Elf, Asm, Script, Report}
+use Rattle.chip_files.specs.declared.refusal.Refusal.TheVariants.{Usage, WrongValue, Unread, TooLong, Elf, Asm, Script, Report, Trace}
 use Rattle.chip_files.specs.declared.stop.Stop.{Stop}
 use Rattle.chip_files.specs.declared.stop.Stop.TheVariants.{Refused, NoMemory}
 use Rattle.chip_files.specs.Program.{IsImageIn, limit_of, or_refusal, program_in, program_of_file, script_in, script_limit}
@@ -88,6 +88,7 @@ IsOfBytes (Elf fault) = Unit {0}
 IsOfBytes (Asm line fault) = Unit {0}
 IsOfBytes (Script line fault) = Unit {0}
 IsOfBytes (Report fault) = Unit {0}
+IsOfBytes (Trace fault) = Unit {0}
 
 as_refused : {X : Type 0} (refusal other : Refusal) → IsOfBytes refusal → ◌≡◌ {A = Result X Refusal} (Err refusal) (Err other) → IsOfBytes other
 as_refused refusal other is same =
@@ -113,6 +114,7 @@ is_cause (Elf fault) need old new of_bytes bad = bad
 is_cause (Asm line fault) need old new of_bytes bad = bad
 is_cause (Script line fault) need old new of_bytes bad = bad
 is_cause (Report fault) need old new of_bytes bad = bad
+is_cause (Trace fault) need old new of_bytes bad = bad
 
 -- its file was read, and is no program
 pub untold : (stop : Stop) (file : FileAsked) (bytes : List ℕ) (old new : FilesState) → HasBytes old.held file.name bytes → length bytes ≤ limit_of file.form → Asks (program_need file ∷ []) old new →
@@ -151,7 +153,7 @@ later_on old mid new first then = record {
   taken = let more = first.taken in let yet = then.taken in omega arith;
 }
 
-accepted_before : (need : Need) (bytes : List ℕ) (old mid : FilesState) → mid.held ≡ old.held → IsAccepted mid need bytes → IsAccepted old need bytes
+pub accepted_before : (need : Need) (bytes : List ℕ) (old mid : FilesState) → mid.held ≡ old.held → IsAccepted mid need bytes → IsAccepted old need bytes
 accepted_before need bytes old mid same accepted = record {
   told = subst (λ (held : Option (List ℕ → Option (List ℕ))). HasBytes held need.name bytes) same accepted.told;
   within = accepted.within;
@@ -184,6 +186,7 @@ whole_cause (Elf fault) need old mid new later cause = misformed_before (Elf fau
 whole_cause (Asm line fault) need old mid new later cause = misformed_before (Asm line fault) need old mid later.held cause
 whole_cause (Script line fault) need old mid new later cause = misformed_before (Script line fault) need old mid later.held cause
 whole_cause (Report fault) need old mid new later cause = misformed_before (Report fault) need old mid later.held cause
+whole_cause (Trace fault) need old mid new later cause = misformed_before (Trace fault) need old mid later.held cause
 
 names_of_both : (before after : List Need) → names (before ++ after) ≡ names before ++ names after
 names_of_both [] after = refl

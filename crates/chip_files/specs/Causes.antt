@@ -5,7 +5,7 @@ use Rattle.sec_base.specs.Prefix.{IsPrefix}
 use Rattle.sec_base.specs.Files.{FilesState, HasBytes, HasOver}
 use Rattle.chip_words.specs.Request.{Asked, WordsFault, not_taken, wrong_value}
 use Rattle.chip_files.specs.declared.refusal.Refusal.{Refusal}
-use Rattle.chip_files.specs.declared.refusal.Refusal.TheVariants.{Usage, WrongValue, Unread, TooLong, Elf, Asm, Script, Report}
+use Rattle.chip_files.specs.declared.refusal.Refusal.TheVariants.{Usage, WrongValue, Unread, TooLong, Elf, Asm, Script, Report, Trace}
 use Rattle.chip_files.specs.Needs.{Need, AreAccepted, names, needs_of}
 
 -- ---- what is asked for
@@ -42,6 +42,7 @@ IsCause (Elf fault) need old new = IsMisformed (Elf fault) need old
 IsCause (Asm line fault) need old new = IsMisformed (Asm line fault) need old
 IsCause (Script line fault) need old new = IsMisformed (Script line fault) need old
 IsCause (Report fault) need old new = IsMisformed (Report fault) need old
+IsCause (Trace fault) need old new = IsMisformed (Trace fault) need old
 
 -- other files were read since, each whole and without a fault
 pub record IsLater (old new : FilesState) : Type 0 where
@@ -83,3 +84,4 @@ IsRefused (Elf fault) request old new = Stops (Elf fault) (needs_of request) old
 IsRefused (Asm line fault) request old new = Stops (Asm line fault) (needs_of request) old new
 IsRefused (Script line fault) request old new = Stops (Script line fault) (needs_of request) old new
 IsRefused (Report fault) request old new = Stops (Report fault) (needs_of request) old new
+IsRefused (Trace fault) request old new = Stops (Trace fault) (needs_of request) old new

@@ -1,5 +1,6 @@
 pub mod Program
 pub mod Verdict
+pub mod Traces
 pub mod Needs
 pub mod Causes
 pub mod Taken

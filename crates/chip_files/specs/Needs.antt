@@ -2,9 +2,10 @@
 use Rattle.std.specs.Prelude.{◌≡◌, ◌<◌, ◌≤◌, ◌≢◌, ◌⊎◌, List, [], ◌∷◌, ◌++◌, ℕ, length, map, Option, Some, None, Result, Ok, Err}
 use Rattle.std.specs.Result.{result_err}
 use Rattle.sec_base.specs.Files.{FilesState, HasBytes}
-use Rattle.chip_words.specs.Request.{Asked, ExecutionAsked, FileAsked, ReportAsked, RunAsked, WordsFault, to_assemble, to_disassemble, to_measure, to_run, to_run_plain, to_verify, to_bench}
+use Rattle.chip_words.specs.Request.{Asked, ExecutionAsked, FileAsked, JudgeAsked, ReportAsked, RunAsked, WordsFault, to_assemble, to_disassemble, to_judge, to_measure, to_run, to_run_plain, to_trace, to_verify, to_bench}
 use Rattle.chip_files.specs.declared.refusal.Refusal.{Refusal}
 use Rattle.chip_files.specs.Program.{fault_in, limit_of, script_in, script_limit}
+use Rattle.chip_files.specs.Traces.{trace_in, trace_limit}
 use Rattle.chip_files.specs.Verdict.{form_fault, report_limit, verdict_of}
 use Rattle.sec_base.specs.Geometry.{GeometryView}
 
@@ -46,6 +47,11 @@ abbrev pub report_need : ReportAsked → Need
 report_need asked =
     record { name = asked.name; limit = report_limit; fault = λ bytes. form_fault (verdict_of asked.device_key bytes) }
 
+-- a trace has its form, and fits a memory of this geometry
+abbrev pub trace_need : GeometryView → List ℕ → Need
+trace_need geometry name =
+    record { name = name; limit = trace_limit; fault = λ bytes. result_err (trace_in geometry bytes) }
+
 -- a program, and then its input, where one is named
 abbrev pub execution_needs : ExecutionAsked → List Need
 execution_needs execution = program_need execution.file ∷ input_needs execution.input
@@ -54,6 +60,11 @@ execution_needs execution = program_need execution.file ∷ input_needs executio
 abbrev pub run_needs : RunAsked → List Need
 run_needs asked = program_need asked.execution.file
     ∷ (script_needs asked.execution.file.geometry asked.script ++ input_needs asked.execution.input)
+
+-- a program, then its input, where one is named, and then the trace that is judged
+abbrev pub judge_needs : JudgeAsked → List Need
+judge_needs asked =
+    execution_needs asked.execution ++ trace_need asked.execution.file.geometry asked.trace ∷ []
 
 -- the files that a request needs: a generated program needs none
 abbrev pub asked_needs : Asked → List Need
@@ -64,6 +75,8 @@ asked_needs (to_disassemble file) = program_need file ∷ []
 asked_needs (to_measure file) = program_need file ∷ []
 asked_needs (to_verify report) = report_need report ∷ []
 asked_needs (to_bench number) = []
+asked_needs (to_trace asked) = run_needs asked
+asked_needs (to_judge asked) = judge_needs asked
 
 -- words that are no request need nothing
 abbrev pub needs_of : Result Asked WordsFault → List Need

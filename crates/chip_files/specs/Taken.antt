@@ -1,11 +1,13 @@
--- The programs, scripts and inputs that files are, and what was read for a request.
+-- The programs, scripts, inputs and traces that files are, and what was read for a request.
 use Rattle.std.specs.Prelude.{◌≡◌, List, [], ◌∷◌, ℕ, Option, Some, None, IsSome, Ok}
 use Rattle.adversary_script.specs.declared.script.ScriptLine.{ScriptLine}
+use Rattle.bus_trace.specs.declared.trace.Trace.{Trace}
 use Rattle.sec_base.specs.Files.{FilesState}
 use Rattle.sec_base.specs.Program.{Program}
-use Rattle.chip_words.specs.Request.{ExecutionAsked, FileAsked, ReportAsked, RunAsked}
+use Rattle.chip_words.specs.Request.{ExecutionAsked, FileAsked, JudgeAsked, ReportAsked, RunAsked}
 use Rattle.chip_files.specs.Program.{program_of_file, script_in}
-use Rattle.chip_files.specs.Needs.{IsAccepted, execution_needs, input_need, program_need, report_need, run_needs, script_need}
+use Rattle.chip_files.specs.Traces.{trace_in}
+use Rattle.chip_files.specs.Needs.{IsAccepted, execution_needs, input_need, judge_needs, program_need, report_need, run_needs, script_need, trace_need}
 use Rattle.chip_files.specs.Causes.{Asks}
 use Rattle.sec_base.specs.Geometry.{GeometryView}
 
@@ -37,6 +39,12 @@ abbrev pub IsInput : FilesState → Option (List ℕ) → List ℕ → Type 0
 IsInput files None input = input ≡ []
 IsInput files (Some name) input = IsAccepted files (input_need name) input
 
+-- the file can be accepted, and its bytes are this trace
+pub record IsTraceFile (files : FilesState) (geometry : GeometryView) (name : List ℕ) (trace : Trace) : Type 0 where
+  pub bytes : List ℕ
+  pub accepted : IsAccepted files (trace_need geometry name) bytes
+  pub is : trace_in geometry bytes ≡ Ok trace
+
 -- a program and its input were read and accepted
 pub record ReadsExecution (execution : ExecutionAsked) (old new : FilesState) (program : Program) (input : List ℕ) : Type 0 where
   pub program_is : IsProgram old execution.file program
@@ -49,6 +57,13 @@ pub record ReadsRun (run : RunAsked) (old new : FilesState) (program : Program) 
   pub script_is : IsScript old run.execution.file.geometry run.script script
   pub input_is : IsInput old run.execution.input input
   pub asked : Asks (run_needs run) old new
+
+-- a program, its input and the trace that is judged were read and accepted, in this order
+pub record ReadsJudged (judge : JudgeAsked) (old new : FilesState) (program : Program) (input : List ℕ) (trace : Trace) : Type 0 where
+  pub program_is : IsProgram old judge.execution.file program
+  pub input_is : IsInput old judge.execution.input input
+  pub trace_is : IsTraceFile old judge.execution.file.geometry judge.trace trace
+  pub asked : Asks (judge_needs judge) old new
 
 -- a program was read and accepted
 pub record ReadsProgram (file : FileAsked) (old new : FilesState) (program : Program) : Type 0 where

@@ -9,4 +9,4 @@ mod taking;
 
 pub use refusal::Refusal;
 pub use stop::Stop;
-pub use taking::{take_execution, take_program, take_report, take_run};
+pub use taking::{take_execution, take_judged, take_program, take_report, take_run};

@@ -1,6 +1,7 @@
 // Why words or a file are refused.
 use adversary_script::ScriptFault;
 use attest_report::ReportError;
+use bus_trace::TraceFault;
 use chip_words::ValueFault;
 use elf_load::ElfFault;
 use rv32_asm::AsmFault;
@@ -34,4 +35,6 @@ pub enum Refusal {
     },
     /// A text doesn't have the form of a report.
     Report(ReportError),
+    /// A file is no trace for the memory.
+    Trace(TraceFault),
 }

@@ -1,10 +1,11 @@
 // Why nothing was done.
 ghost use Rattle.std.specs.Prelude.{◌≡◌};
-ghost use Rattle.chip_files.specs.Stop.{assembly_stop_of, elf_stop_of, read_stop_of, script_stop_of, words_stop_of};
+ghost use Rattle.chip_files.specs.Stop.{assembly_stop_of, elf_stop_of, read_stop_of, script_stop_of, trace_stop_of, words_stop_of};
 ghost use Rattle.chip_files.specs.declared.stop.Stop.TheVariants.{NoMemory as no_memory};
 
 use crate::refusal::Refusal;
 use adversary_script::ScriptError;
+use bus_trace::TraceError;
 use chip_words::WordsError;
 use elf_load::ElfError;
 use rv32_asm::AsmError;
@@ -83,6 +84,17 @@ impl From<ScriptError> for Stop {
                 fault: code,
             }),
             ScriptError::NoMemory => Stop::NoMemory,
+        }
+    }
+}
+
+impl From<TraceError> for Stop {
+    ghost from_gives = { λ error stop. stop ≡ trace_stop_of error };
+
+    fn from(error: TraceError) -> Self {
+        match error {
+            TraceError::Fault(fault) => Stop::Refused(Refusal::Trace(fault)),
+            TraceError::NoMemory => Stop::NoMemory,
         }
     }
 }

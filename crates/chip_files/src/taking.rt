@@ -1,15 +1,16 @@
 // The files of a request.
 ghost use Rattle.std.specs.Prelude.{◌≡◌, ◌<◌, ◌≤◌, ◌^◌, [], ◌∷◌, ◌++◌, List, ℕ, Option, Some, None, length, option_map, IfOk, IfErr, IfSome, OnOk};
 ghost use Rattle.adversary_script.specs.Script.{FitScript};
+ghost use Rattle.bus_trace.specs.Format.{IsInForm};
 ghost use Rattle.sec_base.specs.Files.{HasBytes};
 ghost use Rattle.sec_base.specs.Geometry.{memory_size};
 ghost use Rattle.sec_base.specs.Program.{IsImageOf, Program};
 ghost use Rattle.sec_base.specs.Segment.{segment_bytes};
-ghost use Rattle.chip_words.specs.Words.{execution_asked, file_asked, report_asked, run_asked};
+ghost use Rattle.chip_words.specs.Words.{execution_asked, file_asked, judge_asked, report_asked, run_asked};
 ghost use Rattle.chip_files.specs.Causes.{Asks};
-ghost use Rattle.chip_files.specs.Needs.{execution_needs, input_needs, program_need, report_need, run_needs, script_needs};
+ghost use Rattle.chip_files.specs.Needs.{execution_needs, input_needs, judge_needs, program_need, report_need, run_needs, script_needs, trace_need};
 ghost use Rattle.chip_files.specs.Stop.{IsStoppedBy};
-ghost use Rattle.chip_files.specs.Taken.{IsInput, IsProgram, IsScript, ReadsExecution, ReadsReport, ReadsRun};
+ghost use Rattle.chip_files.specs.Taken.{IsInput, IsProgram, IsScript, IsTraceFile, ReadsExecution, ReadsJudged, ReadsReport, ReadsRun};
 ghost use Rattle.chip_files.specs.Verdict.{IsVerdict, form_fault, verdict_of};
 ghost use Rattle.chip_files.specs.declared.refusal.Refusal.{Refusal};
 ghost use Rattle.chip_files.specs.declared.stop.Stop.TheVariants.{Refused};
@@ -19,7 +20,8 @@ use crate::refusal::Refusal;
 use crate::stop::Stop;
 use adversary_script::{Script, parse};
 use attest_report::{ReportError, Signed, verify};
-use chip_words::{Execution, ProgramFile, ProtectedRun, ReportFile};
+use bus_trace::Trace;
+use chip_words::{Execution, JudgedTrace, ProgramFile, ProtectedRun, ReportFile};
 use hmac_tag::derive;
 use sec_base::{Bytes, Files, Geometry, Image};
 use std::alloc::Global;
@@ -32,6 +34,9 @@ const INPUT_LIMIT: u64 = 1_048_576;
 
 /// No report longer than this is read.
 const REPORT_LIMIT: u64 = 1_048_576;
+
+/// No trace longer than this is read.
+const TRACE_LIMIT: u64 = 67_108_864;
 
 /// The program, the script and the input of a run on protected memory.
 pub fn take_run<F: Files>(
@@ -75,10 +80,34 @@ pub fn take_execution<F: Files>(
     ensures held { (F.state files.new).held ≡ (F.state files.old).held }
     ensures quiet { OnOk result ((F.state files.new).faults ≡ (F.state files.old).faults) }
     ensures faults { (F.state files.old).faults ≤ (F.state files.new).faults }
+    ensures bytes_taken { (F.state files.old).taken ≤ (F.state files.new).taken }
 {
     let image = take_program(alloc, &execution.file, files)?;
     let input = take_input(alloc, execution.input, files)?;
     Ok((image, input))
+}
+
+/// The program and the input of an execution, and the trace that is judged.
+pub fn take_judged<F: Files>(
+    alloc: Global,
+    asked: &JudgedTrace<'_>,
+    files: &mut F,
+) -> Result<(Image, Bytes, Trace), Stop>
+    ensures taken { IfOk result (λ taken. (program : Program)
+        × IsImageOf (memory_size asked.now.execution.file.geometry) program taken.0
+        × ReadsJudged (judge_asked asked.now) (F.state files.old) (F.state files.new) program
+        taken.1 taken.2) }
+    ensures form { IfOk result (λ taken. IsInForm asked.now.execution.file.geometry taken.2) }
+    ensures stopped { IfErr result (λ stop.
+        IsStoppedBy stop (judge_needs (judge_asked asked.now)) (F.state files.old)
+        (F.state files.new)) }
+    ensures held { (F.state files.new).held ≡ (F.state files.old).held }
+    ensures quiet { OnOk result ((F.state files.new).faults ≡ (F.state files.old).faults) }
+    ensures faults { (F.state files.old).faults ≤ (F.state files.new).faults }
+{
+    let (image, input) = take_execution(alloc, &asked.execution, files)?;
+    let trace = take_trace(alloc, asked.trace, asked.execution.file.geometry, files)?;
+    Ok((image, input, trace))
 }
 
 /// The program of a file, which has to be one for the memory.
@@ -188,6 +217,28 @@ fn take_input<F: Files>(alloc: Global, name: Option<&str>, files: &mut F) -> Res
         return Ok(Bytes::new(alloc));
     };
     read_file(alloc, name, INPUT_LIMIT, files)
+}
+
+// The trace of a file, which has to be one of a memory of this shape.
+fn take_trace<F: Files>(
+    alloc: Global,
+    name: &str,
+    geometry: Geometry,
+    files: &mut F,
+) -> Result<Trace, Stop>
+    ensures taken { IfOk result (IsTraceFile (F.state files.old) geometry name.now) }
+    ensures form { IfOk result (IsInForm geometry) }
+    ensures asked { OnOk result (Asks (trace_need geometry name.now ∷ []) (F.state files.old)
+        (F.state files.new)) }
+    ensures stopped { IfErr result (λ stop.
+        IsStoppedBy stop (trace_need geometry name.now ∷ []) (F.state files.old)
+        (F.state files.new)) }
+    ensures held { (F.state files.new).held ≡ (F.state files.old).held }
+    ensures quiet { OnOk result ((F.state files.new).faults ≡ (F.state files.old).faults) }
+    ensures faults { (F.state files.old).faults ≤ (F.state files.new).faults }
+{
+    let bytes = read_file(alloc, name, TRACE_LIMIT, files)?;
+    Ok(bus_trace::parse(alloc, bytes.as_slice(), geometry)?)
 }
 
 // A file's bytes, which are within the limit.
