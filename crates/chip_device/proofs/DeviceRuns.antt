@@ -8,7 +8,7 @@ use Rattle.hmac_tag.specs.DeviceKeys.{keys_of}
 use Rattle.hmac_tag.specs.Tags.{TagKeys, tag_of, xor_tag_of}
 use Rattle.hmac_tag.specs.declared.derivation.Keys.{Keys}
 use Rattle.tag_engine.specs.Tag.{engine_tag}
-use Rattle.rv32_core.specs.Machine.{Machine, opening as image_opening}
+use Rattle.rv32_core.specs.Machine.{opening as image_opening}
 use Rattle.rv32_run.specs.StoredLines.{image_lines}
 use Rattle.sec_base.specs.Program.{IsImageOf, Program}
 use Rattle.chip_words.specs.declared.request.Tags.TheVariants.{Hmac, Xor}
@@ -76,26 +76,27 @@ same_basis : (terms asked : RunTerms) → terms.start ≡ asked.start → terms.
     basis_of terms ≡ basis_of asked
 same_basis terms asked starts stored geometry key = rw (starts, stored, geometry, key) refl
 
--- what a run on a new bus tells of its accesses, by the terms that it was asked on
-pub went_over : (terms asked : RunTerms) (run : RunRecord) (old new : RunBus) → terms.start ≡ asked.start → terms.stored_lines ≡ asked.stored_lines → terms.tag_of ≡ asked.tag_of →
-    terms.geometry ≡ asked.geometry → terms.enc_key ≡ asked.enc_key → run_history old ≡ new_history asked.geometry →
-    (accesses : List Access) × IsSameKind old accesses new × KeepsAccesses terms (run_history new) accesses run → WentOver asked run new
-went_over terms asked run old new starts stored tags geometry key begins told =
-    let accesses : List Access = told.0 in
-    let keeps = told.2 in
-    record {
-      accesses = accesses;
-      came = subst (λ (history : BusHistory). CameBy history accesses (run_history new)) begins (kind_told old new accesses told.1);
-      keeps = record {
-        written = keeps.written;
-        unwritten = keeps.unwritten;
-        made = keeps.made;
-        writes = keeps.writes ∙ ap (λ (tag_of : Message → List ℕ). map (access_of tag_of) keeps.written) tags;
-        few = keeps.few;
-        inside = subst (λ (shape : GeometryView). AreOf (IsPlace shape) accesses) geometry keeps.inside;
-        shown = keeps.shown;
-        tampered = keeps.tampered;
-        by_instruction = λ quiet. subst (λ (basis : Basis). GoesByInstruction basis (run_history new) accesses run.made run.retired run.ending)
-            (same_basis terms asked starts stored geometry key) (keeps.by_instruction quiet);
-      };
-    }
+-- what a run tells of its accesses, by the terms that it was asked on
+pub keeps_asked : (terms asked : RunTerms) (run : RunRecord) (after : BusHistory) (accesses : List Access) → terms.start ≡ asked.start → terms.stored_lines ≡ asked.stored_lines → terms.tag_of ≡ asked.tag_of →
+    terms.geometry ≡ asked.geometry → terms.enc_key ≡ asked.enc_key → KeepsAccesses terms after accesses run → KeepsAccesses asked after accesses run
+keeps_asked terms asked run after accesses starts stored tags geometry key keeps = record {
+  written = keeps.written;
+  unwritten = keeps.unwritten;
+  made = keeps.made;
+  writes = keeps.writes ∙ ap (λ (tag_of : Message → List ℕ). map (access_of tag_of) keeps.written) tags;
+  few = keeps.few;
+  inside = subst (λ (shape : GeometryView). AreOf (IsPlace shape) accesses) geometry keeps.inside;
+  shown = keeps.shown;
+  tampered = keeps.tampered;
+  by_instruction = λ quiet. subst (λ (basis : Basis). GoesByInstruction basis after accesses run.made run.retired run.ending)
+      (same_basis terms asked starts stored geometry key) (keeps.by_instruction quiet);
+}
+
+-- what went over a bus that was new
+pub went_over : (asked : RunTerms) (run : RunRecord) (old new : RunBus) (accesses : List Access) → run_history old ≡ new_history asked.geometry → IsSameKind old accesses new →
+    KeepsAccesses asked (run_history new) accesses run → WentOver asked run new
+went_over asked run old new accesses begins moved keeps = record {
+  accesses = accesses;
+  came = subst (λ (history : BusHistory). CameBy history accesses (run_history new)) begins (kind_told old new accesses moved);
+  keeps = keeps;
+}

@@ -1,1 +1,2 @@
 pub mod DeviceRuns
+pub mod TraceRuns

@@ -1,7 +1,6 @@
 -- How a generated program is run.
-use Rattle.std.specs.Prelude.{◌≡◌, ℕ, List, [], Some, None, Ok}
+use Rattle.std.specs.Prelude.{◌≡◌, ℕ, List, [], None, Ok}
 use Rattle.sec_base.specs.Program.{Program}
-use Rattle.sec_base.specs.Sink.{SinkState}
 use Rattle.bus_model.specs.BusHistory.{new_history}
 use Rattle.chip_run.specs.Run.{RunsProtected}
 use Rattle.chip_run.specs.declared.RunRecord.{RunRecord}
@@ -11,6 +10,7 @@ use Rattle.workload_gen.specs.Workload.{workload_of}
 use Rattle.chip_device.specs.declared.run_bus.RunBus.{RunBus}
 use Rattle.chip_device.specs.Buses.{IsBusOf, WentOver, run_history}
 use Rattle.chip_device.specs.Device.{terms_of}
+use Rattle.chip_device.specs.Printed.{gathered}
 
 -- a tree of four levels, no input, and the steps that a run has by default; it is of no file
 abbrev pub generated_execution : ExecutionAsked
@@ -19,10 +19,6 @@ generated_execution = default_execution []
 -- a run as one that names no option, of no file
 abbrev pub generated_run : RunAsked
 generated_run = default_run []
-
--- a sink that has these bytes and never fails
-abbrev pub gathered : List ℕ → SinkState
-gathered bytes = record { written = Some bytes; faults = 0 }
 
 -- the generated program of the number ran so, over an honest bus that was new and whose writes are the run's messages, in
 -- order, and printed these bytes

@@ -1,17 +1,19 @@
 // The device that programs run on.
-ghost use Rattle.std.specs.Prelude.{◌≡◌, ◌≤◌, IfOk, IfSome, OnErr};
+ghost use Rattle.std.specs.Prelude.{◌≡◌, ◌≤◌, List, IfOk, IfSome, OnErr};
 ghost use Rattle.adversary_script.specs.Script.{FitScript};
 ghost use Rattle.sec_base.specs.Geometry.{memory_size};
 ghost use Rattle.sec_base.specs.Program.{IsImageOf, Program};
 ghost use Rattle.sec_base.specs.Sink.{IsSilent};
+ghost use Rattle.bus_model.specs.Access.{Access};
 ghost use Rattle.bus_model.specs.BusHistory.{new_history};
-ghost use Rattle.chip_run.specs.Run.{RunsProtected};
+ghost use Rattle.chip_run.specs.Run.{KeepsAccesses, RunsProtected};
 ghost use Rattle.chip_words.specs.Words.{run_asked};
 ghost use Rattle.chip_device.specs.Buses.{IsBusOf, WentOver, run_history};
 ghost use Rattle.chip_device.specs.Device.{terms_of};
 
 use crate::run_bus::RunBus;
 use adversary_script::Script;
+use bus_model::Bus;
 use chip_run::{RunRecord, Setup, run};
 use chip_words::{ProtectedRun, Tags};
 use hmac_tag::{HmacTagger, XorTagger, derive};
@@ -47,24 +49,55 @@ pub fn run_on_device<O: Sink>(
     ensures silent { OnErr result (IsSilent (O.state out.old) (O.state out.new)) }
     ensures faults { (O.state out.old).faults ≤ (O.state out.new).faults }
 {
-    let geometry = asked.execution.file.geometry;
-    let bus = RunBus::new(alloc, script, geometry)?;
+    let bus = RunBus::new(alloc, script, asked.execution.file.geometry)?;
+    Ok(run_over(alloc, image, input, asked, bus, out))
+}
+
+// Runs a program on an input as a request asks, on protected memory over any bus that is new. The bus comes back as it
+// stands at the end.
+pub(crate) fn run_over<B: Bus, O: Sink>(
+    alloc: Global,
+    image: &Image,
+    input: &[u8],
+    asked: &ProtectedRun<'_>,
+    bus: B,
+    out: &mut O,
+) -> (RunRecord, B)
+    requires size { image.now.size ≡ memory_size asked.now.execution.file.geometry }
+    requires new { B.history bus ≡ new_history asked.now.execution.file.geometry }
+    ensures ran { (program : Program) →
+        IsImageOf (memory_size asked.now.execution.file.geometry) program image.now →
+        RunsProtected (terms_of (run_asked asked.now) program input.now) (O.state out.old)
+        (O.state out.new)
+        (new_history asked.now.execution.file.geometry) (B.history result.1) result.0 }
+
+    // Some accesses led from the bus that was given to the one handed back; their writes are the messages of the run.
+    ensures accesses { (accesses : List Access) × B.moved bus accesses result.1
+        × ((program : Program) →
+        IsImageOf (memory_size asked.now.execution.file.geometry) program image.now →
+        KeepsAccesses (terms_of (run_asked asked.now) program input.now) (B.history result.1)
+        accesses result.0) }
+
+    ensures faults { (O.state out.old).faults ≤ (O.state out.new).faults }
+{
     let keys = derive(&asked.terms.device_key);
     let setup = Setup {
-        geometry,
+        geometry: asked.execution.file.geometry,
         keys,
         budget: asked.execution.steps,
         page_limit: asked.terms.page_limit,
         nonce: asked.terms.nonce,
     };
     match asked.terms.tags {
-        Tags::Hmac => {
-            let tagger = HmacTagger::new(&keys);
-            Ok(run(alloc, image, input, &setup, tagger, bus, out))
-        }
-        Tags::Xor => {
-            let tagger = XorTagger::new(&keys);
-            Ok(run(alloc, image, input, &setup, tagger, bus, out))
-        }
+        Tags::Hmac => run(
+            alloc,
+            image,
+            input,
+            &setup,
+            HmacTagger::new(&keys),
+            bus,
+            out,
+        ),
+        Tags::Xor => run(alloc, image, input, &setup, XorTagger::new(&keys), bus, out),
     }
 }

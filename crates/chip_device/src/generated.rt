@@ -6,60 +6,17 @@ ghost use Rattle.bus_model.specs.BusHistory.{new_history};
 ghost use Rattle.chip_run.specs.Run.{RunsProtected};
 ghost use Rattle.chip_device.specs.Buses.{IsBusOf, WentOver, run_history};
 ghost use Rattle.chip_device.specs.Device.{terms_of};
-ghost use Rattle.chip_device.specs.Generated.{RunsGenerated, gathered, generated_run};
+ghost use Rattle.chip_device.specs.Generated.{RunsGenerated, generated_run};
+ghost use Rattle.chip_device.specs.Printed.{gathered};
 
 use crate::device::run_on_device;
+use crate::printed::Printed;
 use crate::run_bus::RunBus;
 use chip_run::RunRecord;
 use chip_words::{Execution, ProgramFile, ProgramForm, ProtectedRun, default_run};
-use sec_base::{Image, NoMemory, Sink, SinkStop};
+use sec_base::{Image, NoMemory};
 use std::alloc::Global;
-use std::marker::Model;
 use workload_gen::make;
-
-/// What a program printed, kept in memory.
-#[derive(Debug, Drop)]
-pub struct Printed {
-    bytes: Vec<u8>,
-}
-
-impl Model for Printed {
-    ghost use Rattle.std.specs.Prelude.{List, ℕ};
-
-    ghost Value = { List ℕ };
-
-    ghost view = { λ printed. printed.bytes.items };
-}
-
-impl Printed {
-    /// Nothing yet.
-    pub fn new(alloc: Global) -> Self
-        ensures { result ≡ [] }
-    {
-        Printed {
-            bytes: Vec::new(alloc),
-        }
-    }
-
-    /// All bytes, in order.
-    pub fn as_slice(&self) -> &[u8]
-        ensures { result.now ≡ self.now }
-    {
-        self.bytes.as_slice()
-    }
-}
-
-impl Sink for Printed {
-    ghost state = { gathered };
-
-    fn write(&mut self, piece: &[u8]) -> Result<usize, SinkStop> {
-        if piece.is_empty() {
-            return Ok(0);
-        }
-        self.bytes.extend_from_slice(piece)?;
-        Ok(piece.len())
-    }
-}
 
 /// Runs the generated program of a number on protected memory, on the terms that a run has by default. Fails only if out
 /// of memory.
