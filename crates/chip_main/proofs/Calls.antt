@@ -23,6 +23,7 @@ says_status o = record {
   spent = runs.spent o;
   evidence = runs.with_evidence o;
   tag_differs = outcomes.tag_differs o;
+  judged_no = outcomes.judged_no o;
   read_fault = outcomes.read_fault o;
   write_fault = runs.write_fault o;
   faultless = faults.faultless o;
@@ -38,7 +39,17 @@ gives_asked o = record {
   measure = requested.measure o;
   verify = requested.verify o;
   bench = requested.bench o;
+  trace = requested.trace o;
+  judge = requested.judge o;
 }
 
 pub gives_due : {request : Result Asked WordsFault} {old new : World} {answer : Done} → Outcome request old new answer → GivesDue request old new answer
-gives_due o = record { unfit = requested.unfit o; whole = wholes.whole o; whole_run = wholes.whole_run o; whole_report = wholes.whole_report o; whole_bench = wholes.whole_bench o }
+gives_due o = record {
+  unfit = requested.unfit o;
+  whole = wholes.whole o;
+  whole_run = wholes.whole_run o;
+  whole_report = wholes.whole_report o;
+  whole_bench = wholes.whole_bench o;
+  whole_trace = wholes.whole_trace o;
+  whole_judgement = wholes.whole_judgement o;
+}

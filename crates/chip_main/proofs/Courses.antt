@@ -3,22 +3,23 @@ use Rattle.std.proofs.Common.{ℕ, List, [], ◌∷◌, ◌++◌, Option, Result
 use Rattle.adversary_script.specs.declared.script.ScriptLine.{ScriptLine}
 use Rattle.sec_base.specs.Geometry.{memory_size}
 use Rattle.sec_base.specs.Files.{FilesState}
-use Rattle.sec_base.specs.Sink.{SinkState}
+use Rattle.sec_base.specs.Sink.{IsWritten, SinkState}
 use Rattle.sec_base.specs.declared.image.Image.{Image}
-use Rattle.sec_base.specs.Sink.{IsWritten}
-use Rattle.chip_words.specs.Request.{Asked, FileAsked, RunAsked, WordsFault, to_run}
+use Rattle.bus_trace.specs.declared.trace.Trace.{Trace}
+use Rattle.chip_words.specs.Request.{Asked, FileAsked, JudgeAsked, RunAsked, WordsFault, to_judge, to_run, to_trace}
 use Rattle.sec_base.specs.Program.{IsImageOf, Program}
 use Rattle.chip_words.specs.Words.{Explains}
 use Rattle.chip_words.specs.declared.fault.WordsError.{WordsError}
 use Rattle.chip_words.specs.declared.fault.WordsError.TheVariants.{Usage as WordsUntaken, WrongValue as WordsWrongValue, NoMemory as words_no_memory}
-use Rattle.chip_files.specs.Needs.{Need, AreAccepted, needs_of, program_need, run_needs}
+use Rattle.chip_files.specs.Needs.{Need, AreAccepted, judge_needs, needs_of, program_need, run_needs}
 use Rattle.chip_files.specs.Causes.{Asks, RunsOut}
 use Rattle.chip_files.specs.Stop.{words_stop_of}
-use Rattle.chip_files.specs.Taken.{IsProgram, ReadsRun}
+use Rattle.chip_files.specs.Taken.{IsProgram, ReadsJudged, ReadsRun}
 use Rattle.chip_main.specs.Course.{CameAbout, stopped_course}
 use Rattle.chip_main.specs.Requests.{Writes}
 use Rattle.chip_main.specs.Status.{Telling}
 use Rattle.chip_files.proofs.Accepted.{run_accepted}
+use Rattle.chip_files.proofs.Judged.{judged_accepted}
 
 -- all files were read, and then there was no memory
 ran_out : (needs : List Need) (files files' : FilesState) → AreAccepted files needs → Asks needs files files' → RunsOut needs files files'
@@ -35,6 +36,14 @@ ran_out needs files files' accepted asked = record {
 pub came_without_memory : (asked : RunAsked) (files files' : FilesState) (program : Program) (script : Option (List ScriptLine)) (input : List ℕ) → ReadsRun asked files files' program script input → RunsOut (needs_of (Ok (to_run asked))) files files'
 came_without_memory asked files files' program script input reads =
     ran_out (run_needs asked) files files' (run_accepted asked files files' program script input reads) reads.asked
+
+pub traced_without_memory : (asked : RunAsked) (files files' : FilesState) (program : Program) (script : Option (List ScriptLine)) (input : List ℕ) → ReadsRun asked files files' program script input → RunsOut (needs_of (Ok (to_trace asked))) files files'
+traced_without_memory asked files files' program script input reads =
+    ran_out (run_needs asked) files files' (run_accepted asked files files' program script input reads) reads.asked
+
+pub judged_without_memory : (judge : JudgeAsked) (files files' : FilesState) (program : Program) (input : List ℕ) (trace : Trace) → ReadsJudged judge files files' program input trace → RunsOut (needs_of (Ok (to_judge judge))) files files'
+judged_without_memory judge files files' program input trace reads =
+    ran_out (judge_needs judge) files files' (judged_accepted judge files files' program input trace reads) reads.asked
 
 -- nothing was read yet
 pub came_unread : (request : Result Asked WordsFault) (files : FilesState) → RunsOut (needs_of request) files files

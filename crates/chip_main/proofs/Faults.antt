@@ -10,16 +10,16 @@ use Rattle.bus_model.specs.BusHistory.{BusHistory}
 use Rattle.chip_run.specs.Run.{RunsProtected, Terms}
 use Rattle.chip_run.specs.declared.RunRecord.{RunRecord}
 use Rattle.chip_files.specs.declared.refusal.Refusal.{Refusal}
-use Rattle.chip_files.specs.declared.refusal.Refusal.TheVariants.{Usage, WrongValue, Unread, TooLong, Elf, Asm, Script, Report}
+use Rattle.chip_files.specs.declared.refusal.Refusal.TheVariants.{Usage, WrongValue, Unread, TooLong, Elf, Asm, Script, Report, Trace as trace_refused}
 use Rattle.chip_files.specs.declared.stop.Stop.{Stop}
 use Rattle.chip_files.specs.declared.stop.Stop.TheVariants.{Refused as stop_refused, NoMemory as stop_no_memory}
 use Rattle.chip_device.specs.declared.run_bus.RunBus.{RunBus}
 use Rattle.chip_device.specs.Generated.{RunsGenerated}
 use Rattle.chip_main.specs.declared.Done.{Done}
 use Rattle.chip_main.specs.declared.course.Course.{Course}
-use Rattle.chip_main.specs.declared.course.Course.TheVariants.{Refused, NoMemory, Ran, RanPlain, Written, OtherTag, RanGenerated}
+use Rattle.chip_main.specs.declared.course.Course.TheVariants.{Refused, NoMemory, Ran, RanPlain, Written, OtherTag, RanGenerated, RanTraced, Judged}
 use Rattle.chip_main.specs.Course.{Outcome, TellsCourse, course_status, status_of, stopped_course}
-use Rattle.chip_main.specs.Status.{IsResult, Telling, code_of, ending_status, evidence_status, refusal_status, run_status, status_with, text_status, told_status, untold_ending_status}
+use Rattle.chip_main.specs.Status.{IsResult, Telling, code_of, ending_status, evidence_status, refusal_status, run_status, status_with, text_status, told_status, untold_ending_status, untold_told_status}
 use Rattle.chip_main.specs.World.{World}
 
 -- no write failed in a run whose status is a result
@@ -44,6 +44,12 @@ untold_stops : (ending : Ending) → ¬ IsResult (code_of (untold_ending_status 
 untold_stops memory_ended is = is.4 refl
 untold_stops _ is = is.3 refl
 
+-- and so is what was written besides, as far as it was
+untold_told_stops : (run : RunRecord) (telling : Telling) → ¬ IsResult (code_of (untold_told_status run telling))
+untold_told_stops run (Ok _) is = untold_stops run.ending is
+untold_told_stops run (Err Failed) is = untold_stops run.ending is
+untold_told_stops run (Err no_memory) is = is.4 refl
+
 -- nor is a refusal
 refusal_stops : (refusal : Refusal) → ¬ IsResult (code_of (refusal_status refusal))
 refusal_stops (Usage text) is = is.0 refl
@@ -54,6 +60,7 @@ refusal_stops (Elf fault) is = is.1 refl
 refusal_stops (Asm line fault) is = is.1 refl
 refusal_stops (Script line fault) is = is.1 refl
 refusal_stops (Report fault) is = is.1 refl
+refusal_stops (trace_refused fault) is = is.1 refl
 
 pub stop_stops : (stop : Stop) → ¬ IsResult (code_of (course_status (stopped_course stop)))
 stop_stops (stop_refused refusal) is = refusal_stops refusal is
@@ -90,6 +97,8 @@ none_rose (RanPlain run) (Err Failed) note note' is taken noted tells = absurd (
 none_rose (Written written) (Err Failed) note note' is taken noted tells = let told = tells.1 in absurd (cc)
 none_rose OtherTag (Err Failed) note note' is taken noted tells = absurd (is.3 refl)
 none_rose (RanGenerated run bus written) (Err Failed) note note' is taken noted tells = let told = tells.1 in absurd (cc)
+none_rose (RanTraced run bus written) (Err Failed) note note' is taken noted tells = absurd (untold_told_stops run written is)
+none_rose (Judged difference written) (Err Failed) note note' is taken noted tells = let told = tells.1 in absurd (cc)
 
 pub faultless : {request : Result Asked WordsFault} {old new : World} {done : Done} → Outcome request old new done → IsResult done.status →
     (new.files.faults ≡ old.files.faults) × (new.out.faults ≡ old.out.faults) × (new.note.faults ≡ old.note.faults)

@@ -9,24 +9,25 @@ use Rattle.sec_base.specs.declared.ending.Ending.{Ending}
 use Rattle.sec_base.specs.declared.ending.Ending.TheVariants.{Halted, Trapped, WriteFault, NoMemory as memory_ended}
 use Rattle.sec_base.specs.declared.sink.SinkStop.TheVariants.{Failed, NoMemory as no_memory}
 use Rattle.sec_base.specs.Sink.{GainsFront}
+use Rattle.bus_trace.specs.declared.verdict.Difference.{Difference}
 use Rattle.plain_machine.specs.declared.PlainRecord.{PlainRecord}
 use Rattle.chip_run.specs.declared.RunRecord.{RunRecord}
 use Rattle.chip_device.specs.declared.run_bus.RunBus.{RunBus}
-use Rattle.chip_words.specs.Request.{Asked, WordsFault, to_assemble, to_bench, to_disassemble, to_measure, to_run, to_run_plain, to_verify}
+use Rattle.chip_words.specs.Request.{Asked, JudgeAsked, RunAsked, WordsFault, to_assemble, to_bench, to_disassemble, to_judge, to_measure, to_run, to_run_plain, to_trace, to_verify}
 use Rattle.chip_files.specs.declared.refusal.Refusal.{Refusal}
-use Rattle.chip_files.specs.declared.refusal.Refusal.TheVariants.{Usage, WrongValue, Unread, TooLong, Elf, Asm, Script, Report}
+use Rattle.chip_files.specs.declared.refusal.Refusal.TheVariants.{Usage, WrongValue, Unread, TooLong, Elf, Asm, Script, Report, Trace as trace_refused}
 use Rattle.chip_files.specs.Needs.{needs_of}
 use Rattle.chip_files.specs.Causes.{IsRefused, Stops}
 use Rattle.chip_device.specs.Buses.{LiesByScript, lies_of, run_history}
 use Rattle.chip_main.specs.declared.course.Course.{Course}
-use Rattle.chip_main.specs.declared.course.Course.TheVariants.{Refused, NoMemory, Ran, RanPlain, Written, OtherTag, RanGenerated}
+use Rattle.chip_main.specs.declared.course.Course.TheVariants.{Refused, NoMemory, Ran, RanPlain, Written, OtherTag, RanGenerated, RanTraced, Judged}
 use Rattle.chip_main.specs.declared.Done.{Done}
 use Rattle.chip_main.specs.World.{World}
-use Rattle.chip_main.specs.Status.{IsResult, IsStatus, Telling, code_of, ending_status, evidence_status, refusal_status, run_status, status_with, text_status, told_status, untold_ending_status}
+use Rattle.chip_main.specs.Status.{IsResult, IsStatus, Telling, code_of, ending_status, evidence_status, judged_status, refusal_status, run_status, status_with, text_status, told_status, untold_ending_status, untold_told_status}
 use Rattle.chip_main.specs.declared.status.Status.{Status}
 use Rattle.chip_main.specs.declared.status.Status.TheVariants as status
-use Rattle.chip_main.specs.Answer.{FileRefused, TellsEnding, TellsPlain, TellsResult, TellsRun}
-use Rattle.chip_main.specs.Requests.{OtherTagRequest, Summarizes, SummarizesRequest}
+use Rattle.chip_main.specs.Answer.{FileRefused, FoundNo, TellsEnding, TellsPlain, TellsResult, TellsRun, TellsTraced}
+use Rattle.chip_main.specs.Requests.{Judges, JudgesRequest, OtherTagRequest, Summarizes, SummarizesRequest, Traces, TracesRequest}
 use Rattle.chip_words.specs.Texts.{plain_text, record_text, tag_differs_line}
 use Rattle.chip_main.specs.Course.{CameAbout, Outcome, TellsCourse, course_bus, course_run, course_status, status_of}
 
@@ -49,6 +50,11 @@ pub untold_high : (ending : Ending) → 9 ≤ code_of (untold_ending_status endi
 untold_high memory_ended = omega arith
 untold_high _ = omega arith
 
+untold_told_high : (run : RunRecord) (telling : Telling) → 9 ≤ code_of (untold_told_status run telling)
+untold_told_high run (Ok _) = untold_high run.ending
+untold_told_high run (Err Failed) = untold_high run.ending
+untold_told_high run (Err no_memory) = omega arith
+
 -- a status below 9 is the course's own
 course_is : (course : Course) (telling : Telling) (status : ℕ) → status < 9 → code_of (status_of course telling) ≡ status → code_of (course_status course) ≡ status
 course_is course (Ok _) status low is = is
@@ -60,6 +66,8 @@ course_is (RanPlain run) (Err Failed) status low is = absurd (omega (arith, unto
 course_is (Written telling) (Err Failed) status low is = is
 course_is OtherTag (Err Failed) status low is = absurd (omega arith)
 course_is (RanGenerated run bus written) (Err Failed) status low is = is
+course_is (RanTraced run bus written) (Err Failed) status low is = absurd (omega (arith, untold_told_high run written))
+course_is (Judged difference written) (Err Failed) status low is = is
 
 pub own_status : {request : Result Asked WordsFault} {old new : World} {done : Done} → (o : Outcome request old new done) → (status : ℕ) → status < 9 → done.status ≡ status →
     code_of (course_status o.course) ≡ status
@@ -106,6 +114,12 @@ told_result run (Ok _) = run_result run.evidence run.ending
 told_result run (Err Failed) = inr (inr (omega (arith, untold_high run.ending)))
 told_result run (Err no_memory) = inr (inr (omega arith))
 
+judged_result : (difference : Option Difference) (telling : Telling) → IsOfResult (code_of (judged_status difference telling))
+judged_result None (Ok _) = inl (omega arith)
+judged_result (Some difference) (Ok _) = inr (inr (omega arith))
+judged_result difference (Err Failed) = inr (inr (omega arith))
+judged_result difference (Err no_memory) = inr (inr (omega arith))
+
 -- there was a refusal with this status
 refusal_is : (course : Course) (status : ℕ) → IsOfRefusal status → code_of (course_status course) ≡ status → (refusal : Refusal) × (course ≡ Refused refusal) × (code_of (refusal_status refusal) ≡ status)
 refusal_is (Refused refusal) status refusing is = (refusal, refl, is)
@@ -115,6 +129,8 @@ refusal_is (RanPlain run) status refusing is = absurd (apart (code_of (ending_st
 refusal_is (Written telling) status refusing is = absurd (apart (code_of (text_status telling)) status (text_result telling) refusing is)
 refusal_is OtherTag status refusing is = absurd (apart 11 status (inr (inr (omega arith))) refusing is)
 refusal_is (RanGenerated run bus telling) status refusing is = absurd (apart (code_of (told_status run telling)) status (told_result run telling) refusing is)
+refusal_is (RanTraced run bus telling) status refusing is = absurd (apart (code_of (told_status run telling)) status (told_result run telling) refusing is)
+refusal_is (Judged difference telling) status refusing is = absurd (apart (code_of (judged_status difference telling)) status (judged_result difference telling) refusing is)
 
 -- so it has its cause
 refused_as : {request : Result Asked WordsFault} {old new : World} {done : Done} → Outcome request old new done → (status : ℕ) → IsOfRefusal status → done.status ≡ status →
@@ -133,6 +149,7 @@ usage_cause (Elf fault) request files files' cause is = absurd (omega arith)
 usage_cause (Asm line fault) request files files' cause is = absurd (omega arith)
 usage_cause (Script line fault) request files files' cause is = absurd (omega arith)
 usage_cause (Report fault) request files files' cause is = absurd (omega arith)
+usage_cause (trace_refused fault) request files files' cause is = absurd (omega arith)
 
 pub usage : {request : Result Asked WordsFault} {old new : World} {done : Done} → Outcome request old new done → done.status ≡ 2 → IsErr request
 usage {request} {old} {new} o is =
@@ -147,6 +164,7 @@ file_cause (Elf fault) request files files' cause is = cause
 file_cause (Asm line fault) request files files' cause is = cause
 file_cause (Script line fault) request files files' cause is = cause
 file_cause (Report fault) request files files' cause is = cause
+file_cause (trace_refused fault) request files files' cause is = cause
 
 refused_is : (refusal : Refusal) → code_of (refusal_status refusal) ≡ 3 → refusal_status refusal ≡ status.Refused
 refused_is (Usage text) is = absurd (omega arith)
@@ -157,6 +175,7 @@ refused_is (Elf fault) is = refl
 refused_is (Asm line fault) is = refl
 refused_is (Script line fault) is = refl
 refused_is (Report fault) is = refl
+refused_is (trace_refused fault) is = refl
 
 pub refused : {request : Result Asked WordsFault} {old new : World} {done : Done} → Outcome request old new done → done.status ≡ 3 →
     FileRefused request old.files new.files
@@ -172,6 +191,7 @@ unread_cause (Elf fault) request files files' cause is = absurd (omega arith)
 unread_cause (Asm line fault) request files files' cause is = absurd (omega arith)
 unread_cause (Script line fault) request files files' cause is = absurd (omega arith)
 unread_cause (Report fault) request files files' cause is = absurd (omega arith)
+unread_cause (trace_refused fault) request files files' cause is = absurd (omega arith)
 
 pub read_fault : {request : Result Asked WordsFault} {old new : World} {done : Done} → Outcome request old new done → done.status ≡ 8 → Stops Unread (needs_of request) old.files new.files
 read_fault {request} {old} {new} o is =
@@ -193,6 +213,20 @@ told_run run bus (Ok _) note note' tells = inl (tells, refl)
 told_run run bus (Err Failed) note note' tells =
     untold_ending (record_text run.ending run.retired (run_history bus).lies run.made run.evidence run.report) (run_status run) run.ending note note' tells.0 tells.1
 told_run run bus (Err no_memory) note note' tells = inr (tells, inr refl)
+
+-- a run whose trace was written so far, and that could not be told
+untold_traced : (text : List ℕ) (whole : Status) (run : RunRecord) (written : Telling) (old new : SinkState) → GainsFront old text new → Rose old.faults new.faults →
+    TellsEnding text whole run.ending (code_of (untold_told_status run written)) old new
+untold_traced text whole run (Ok _) old new front risen = untold_ending text whole run.ending old new front risen
+untold_traced text whole run (Err Failed) old new front risen = untold_ending text whole run.ending old new front risen
+untold_traced text whole run (Err no_memory) old new front risen = inr (front, inr refl)
+
+pub told_traced : (run : RunRecord) (bus : RunBus) (written telling : Telling) (note note' : SinkState) → TellsCourse (RanTraced run bus written) note note' telling →
+    TellsTraced (code_of (status_of (RanTraced run bus written) telling)) run written (run_history bus).lies note note'
+told_traced run bus written (Ok _) note note' tells = inl (tells, refl)
+told_traced run bus written (Err Failed) note note' tells =
+    untold_traced (record_text run.ending run.retired (run_history bus).lies run.made run.evidence run.report) (told_status run written) run written note note' tells.0 tells.1
+told_traced run bus written (Err no_memory) note note' tells = inr (tells, inr refl)
 
 pub told_plain : (run : PlainRecord) (telling : Telling) (note note' : SinkState) → TellsCourse (RanPlain run) note note' telling → TellsPlain (code_of (status_of (RanPlain run) telling)) run note note'
 told_plain run (Ok _) note note' tells = inl (tells, refl)
@@ -216,6 +250,7 @@ refusal_low (Elf fault) = omega arith
 refusal_low (Asm line fault) = omega arith
 refusal_low (Script line fault) = omega arith
 refusal_low (Report fault) = omega arith
+refusal_low (trace_refused fault) = omega arith
 
 ending_low : (ending : Ending) → code_of (ending_status ending) < 11
 ending_low memory_ended = omega arith
@@ -243,31 +278,104 @@ told_low run (Ok _) = run_low run.evidence run.ending
 told_low run (Err Failed) = untold_low run.ending
 told_low run (Err no_memory) = omega arith
 
+untold_told_low : (run : RunRecord) (telling : Telling) → code_of (untold_told_status run telling) < 11
+untold_told_low run (Ok _) = untold_low run.ending
+untold_told_low run (Err Failed) = untold_low run.ending
+untold_told_low run (Err no_memory) = omega arith
+
+-- neither a tag that differs was found nor a trace judged
+abbrev pub IsUnjudged : Course → Type 0
+IsUnjudged (Refused refusal) = Unit {0}
+IsUnjudged NoMemory = Unit {0}
+IsUnjudged (Ran run bus) = Unit {0}
+IsUnjudged (RanPlain run) = Unit {0}
+IsUnjudged (Written telling) = Unit {0}
+IsUnjudged OtherTag = ⊥
+IsUnjudged (RanGenerated run bus telling) = Unit {0}
+IsUnjudged (RanTraced run bus telling) = Unit {0}
+IsUnjudged (Judged difference telling) = ⊥
+
+-- then the status is a low one
+unjudged_low : (course : Course) (telling : Telling) → IsUnjudged course → code_of (status_of course telling) < 11
+unjudged_low course (Err no_memory) unjudged = omega arith
+unjudged_low (Refused refusal) (Ok _) unjudged = refusal_low refusal
+unjudged_low (Refused refusal) (Err Failed) unjudged = refusal_low refusal
+unjudged_low NoMemory (Ok _) unjudged = omega arith
+unjudged_low NoMemory (Err Failed) unjudged = omega arith
+unjudged_low (Ran run bus) (Ok _) unjudged = run_low run.evidence run.ending
+unjudged_low (Ran run bus) (Err Failed) unjudged = untold_low run.ending
+unjudged_low (RanPlain run) (Ok _) unjudged = ending_low run.ending
+unjudged_low (RanPlain run) (Err Failed) unjudged = untold_low run.ending
+unjudged_low (Written written) (Ok _) unjudged = text_low written
+unjudged_low (Written written) (Err Failed) unjudged = text_low written
+unjudged_low OtherTag (Ok _) unjudged = absurd unjudged
+unjudged_low OtherTag (Err Failed) unjudged = absurd unjudged
+unjudged_low (RanGenerated run bus written) (Ok _) unjudged = told_low run written
+unjudged_low (RanGenerated run bus written) (Err Failed) unjudged = told_low run written
+unjudged_low (RanTraced run bus written) (Ok _) unjudged = told_low run written
+unjudged_low (RanTraced run bus written) (Err Failed) unjudged = untold_told_low run written
+unjudged_low (Judged difference written) (Ok _) unjudged = absurd unjudged
+unjudged_low (Judged difference written) (Err Failed) unjudged = absurd unjudged
+
+unjudged_apart : (course : Course) (telling : Telling) (status : ℕ) → IsUnjudged course → 11 ≤ status → code_of (status_of course telling) ≢ status
+unjudged_apart course telling status unjudged high is = let low = unjudged_low course telling unjudged in omega arith
+
+judgement_apart : (difference : Option Difference) (written : Telling) → code_of (judged_status difference written) ≢ 11
+judgement_apart None (Ok _) is = omega arith
+judgement_apart (Some difference) (Ok _) is = omega arith
+judgement_apart difference (Err Failed) is = omega arith
+judgement_apart difference (Err no_memory) is = omega arith
+
 -- no other course has this status
 other_tag_is : (course : Course) (telling : Telling) → code_of (status_of course telling) ≡ 11 → course ≡ OtherTag
 other_tag_is OtherTag telling is = refl
-other_tag_is (Refused refusal) (Ok _) is = absurd (let low = refusal_low refusal in omega arith)
-other_tag_is (Refused refusal) (Err Failed) is = absurd (let low = refusal_low refusal in omega arith)
-other_tag_is (Refused refusal) (Err no_memory) is = absurd (omega arith)
-other_tag_is NoMemory (Ok _) is = absurd (omega arith)
-other_tag_is NoMemory (Err Failed) is = absurd (omega arith)
-other_tag_is NoMemory (Err no_memory) is = absurd (omega arith)
-other_tag_is (Ran run bus) (Ok _) is = absurd (let low = run_low run.evidence run.ending in omega arith)
-other_tag_is (Ran run bus) (Err Failed) is = absurd (let low = untold_low run.ending in omega arith)
-other_tag_is (Ran run bus) (Err no_memory) is = absurd (omega arith)
-other_tag_is (RanPlain run) (Ok _) is = absurd (let low = ending_low run.ending in omega arith)
-other_tag_is (RanPlain run) (Err Failed) is = absurd (let low = untold_low run.ending in omega arith)
-other_tag_is (RanPlain run) (Err no_memory) is = absurd (omega arith)
-other_tag_is (Written written) (Ok _) is = absurd (let low = text_low written in omega arith)
-other_tag_is (Written written) (Err Failed) is = absurd (let low = text_low written in omega arith)
-other_tag_is (Written written) (Err no_memory) is = absurd (omega arith)
-other_tag_is (RanGenerated run bus written) (Ok _) is = absurd (let low = told_low run written in omega arith)
-other_tag_is (RanGenerated run bus written) (Err Failed) is = absurd (let low = told_low run written in omega arith)
-other_tag_is (RanGenerated run bus written) (Err no_memory) is = absurd (omega arith)
+other_tag_is (Refused refusal) telling is = absurd (unjudged_apart (Refused refusal) telling 11 tt (omega arith) is)
+other_tag_is NoMemory telling is = absurd (unjudged_apart NoMemory telling 11 tt (omega arith) is)
+other_tag_is (Ran run bus) telling is = absurd (unjudged_apart (Ran run bus) telling 11 tt (omega arith) is)
+other_tag_is (RanPlain run) telling is = absurd (unjudged_apart (RanPlain run) telling 11 tt (omega arith) is)
+other_tag_is (Written written) telling is = absurd (unjudged_apart (Written written) telling 11 tt (omega arith) is)
+other_tag_is (RanGenerated run bus written) telling is = absurd (unjudged_apart (RanGenerated run bus written) telling 11 tt (omega arith) is)
+other_tag_is (RanTraced run bus written) telling is = absurd (unjudged_apart (RanTraced run bus written) telling 11 tt (omega arith) is)
+other_tag_is (Judged difference written) (Ok _) is = absurd (judgement_apart difference written is)
+other_tag_is (Judged difference written) (Err Failed) is = absurd (judgement_apart difference written is)
+other_tag_is (Judged difference written) (Err no_memory) is = absurd (omega arith)
 
 pub tag_differs : {request : Result Asked WordsFault} {old new : World} {done : Done} → Outcome request old new done → done.status ≡ 11 → OtherTagRequest request old.files new.files
 tag_differs {request} {old} {new} o is =
     (subst (λ (course : Course). CameAbout course request old.files new.files old.out new.out) (other_tag_is o.course o.told (sym o.status ∙ is)) o.came).0
+
+-- ---- a trace that differs
+
+-- some difference was found, and that was written whole
+abbrev pub FindsNo : Course → Type 0
+FindsNo course = (difference : Difference) × (course ≡ Judged (Some difference) (Ok tt))
+
+difference_found : (difference : Option Difference) (written : Telling) → code_of (judged_status difference written) ≡ 13 → FindsNo (Judged difference written)
+difference_found None (Ok _) is = absurd (omega arith)
+difference_found (Some difference) (Ok _) is = (difference, refl)
+difference_found difference (Err Failed) is = absurd (omega arith)
+difference_found difference (Err no_memory) is = absurd (omega arith)
+
+-- no other course has this status
+judged_no_is : (course : Course) (telling : Telling) → code_of (status_of course telling) ≡ 13 → FindsNo course
+judged_no_is (Judged difference written) (Ok _) is = difference_found difference written is
+judged_no_is (Judged difference written) (Err Failed) is = difference_found difference written is
+judged_no_is (Judged difference written) (Err no_memory) is = absurd (omega arith)
+judged_no_is (Refused refusal) telling is = absurd (unjudged_apart (Refused refusal) telling 13 tt (omega arith) is)
+judged_no_is NoMemory telling is = absurd (unjudged_apart NoMemory telling 13 tt (omega arith) is)
+judged_no_is (Ran run bus) telling is = absurd (unjudged_apart (Ran run bus) telling 13 tt (omega arith) is)
+judged_no_is (RanPlain run) telling is = absurd (unjudged_apart (RanPlain run) telling 13 tt (omega arith) is)
+judged_no_is (Written written) telling is = absurd (unjudged_apart (Written written) telling 13 tt (omega arith) is)
+judged_no_is OtherTag (Ok _) is = absurd (omega arith)
+judged_no_is OtherTag (Err Failed) is = absurd (omega arith)
+judged_no_is OtherTag (Err no_memory) is = absurd (omega arith)
+judged_no_is (RanGenerated run bus written) telling is = absurd (unjudged_apart (RanGenerated run bus written) telling 13 tt (omega arith) is)
+judged_no_is (RanTraced run bus written) telling is = absurd (unjudged_apart (RanTraced run bus written) telling 13 tt (omega arith) is)
+
+pub judged_no : {request : Result Asked WordsFault} {old new : World} {done : Done} → Outcome request old new done → done.status ≡ 13 → FoundNo request old new
+judged_no {request} {old} {new} o is =
+    let found = judged_no_is o.course o.told (sym o.status ∙ is) in
+    (found.0, subst (λ (course : Course). CameAbout course request old.files new.files old.out new.out) found.1 o.came)
 
 -- ---- a generated program
 
@@ -282,9 +390,41 @@ benched (Ok (to_disassemble file)) files files' out out' run bus telling came = 
 benched (Ok (to_measure file)) files files' out out' run bus telling came = absurd came
 benched (Ok (to_verify report)) files files' out out' run bus telling came = absurd came
 benched (Ok (to_bench number)) files files' out out' run bus telling came = (number, refl, came)
+benched (Ok (to_trace asked)) files files' out out' run bus telling came = absurd came
+benched (Ok (to_judge judge)) files files' out out' run bus telling came = absurd came
 
 -- a status below 9 is the run's own
 pub told_own : (run : RunRecord) (telling : Telling) (status : ℕ) → status < 9 → code_of (told_status run telling) ≡ status → code_of (run_status run) ≡ status
 told_own run (Ok _) status low is = is
 told_own run (Err Failed) status low is = absurd (omega (arith, untold_high run.ending))
 told_own run (Err no_memory) status low is = absurd (omega arith)
+
+-- ---- a trace
+
+-- its request
+pub traced : (request : Result Asked WordsFault) (files files' : FilesState) (out out' : SinkState) (run : RunRecord) (bus : RunBus) (telling : Telling) → TracesRequest request files files' out out' run bus telling →
+    (asked : RunAsked) × (request ≡ Ok (to_trace asked)) × Traces asked files files' out out' run bus telling
+traced (Err fault) files files' out out' run bus telling came = absurd came
+traced (Ok (to_run asked)) files files' out out' run bus telling came = absurd came
+traced (Ok (to_run_plain execution)) files files' out out' run bus telling came = absurd came
+traced (Ok (to_assemble file)) files files' out out' run bus telling came = absurd came
+traced (Ok (to_disassemble file)) files files' out out' run bus telling came = absurd came
+traced (Ok (to_measure file)) files files' out out' run bus telling came = absurd came
+traced (Ok (to_verify report)) files files' out out' run bus telling came = absurd came
+traced (Ok (to_bench number)) files files' out out' run bus telling came = absurd came
+traced (Ok (to_trace asked)) files files' out out' run bus telling came = (asked, refl, came)
+traced (Ok (to_judge judge)) files files' out out' run bus telling came = absurd came
+
+-- the request of a judgement
+pub judged : (request : Result Asked WordsFault) (files files' : FilesState) (out out' : SinkState) (difference : Option Difference) (telling : Telling) → JudgesRequest request files files' out out' difference telling →
+    (judge : JudgeAsked) × (request ≡ Ok (to_judge judge)) × Judges judge files files' out out' difference telling
+judged (Err fault) files files' out out' difference telling came = absurd came
+judged (Ok (to_run asked)) files files' out out' difference telling came = absurd came
+judged (Ok (to_run_plain execution)) files files' out out' difference telling came = absurd came
+judged (Ok (to_assemble file)) files files' out out' difference telling came = absurd came
+judged (Ok (to_disassemble file)) files files' out out' difference telling came = absurd came
+judged (Ok (to_measure file)) files files' out out' difference telling came = absurd came
+judged (Ok (to_verify report)) files files' out out' difference telling came = absurd came
+judged (Ok (to_bench number)) files files' out out' difference telling came = absurd came
+judged (Ok (to_trace asked)) files files' out out' difference telling came = absurd came
+judged (Ok (to_judge judge)) files files' out out' difference telling came = (judge, refl, came)

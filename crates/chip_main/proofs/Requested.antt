@@ -4,16 +4,17 @@ use Rattle.sec_base.specs.Files.{FilesState, HasBytes}
 use Rattle.sec_base.specs.Sink.{SinkState}
 use Rattle.sec_base.specs.declared.image.Image.{Image}
 use Rattle.sec_base.specs.declared.sink.SinkStop.TheVariants.{Failed, NoMemory as no_memory}
+use Rattle.bus_trace.specs.declared.verdict.Difference.{Difference}
 use Rattle.plain_machine.specs.declared.PlainRecord.{PlainRecord}
 use Rattle.chip_run.specs.declared.RunRecord.{RunRecord}
 use Rattle.chip_words.specs.declared.fault.ValueFault.{ValueFault}
-use Rattle.chip_words.specs.Request.{Asked, FileAsked, ExecutionAsked, ReportAsked, RunAsked, WordsFault, to_assemble, to_disassemble, to_measure, to_run, to_run_plain, to_verify, to_bench}
+use Rattle.chip_words.specs.Request.{Asked, ExecutionAsked, FileAsked, JudgeAsked, ReportAsked, RunAsked, WordsFault, to_assemble, to_bench, to_disassemble, to_judge, to_measure, to_run, to_run_plain, to_trace, to_verify}
 use Rattle.chip_files.specs.declared.refusal.Refusal.{Refusal}
-use Rattle.chip_files.specs.declared.refusal.Refusal.TheVariants.{Usage, WrongValue, Unread, TooLong, Elf, Asm, Script, Report}
+use Rattle.chip_files.specs.declared.refusal.Refusal.TheVariants.{Usage, WrongValue, Unread, TooLong, Elf, Asm, Script, Report, Trace as trace_refused}
 use Rattle.chip_files.specs.Taken.{ReadsReport}
 use Rattle.chip_device.specs.declared.run_bus.RunBus.{RunBus}
 use Rattle.chip_main.specs.declared.course.Course.{Course}
-use Rattle.chip_main.specs.declared.course.Course.TheVariants.{Refused, NoMemory, Ran, RanPlain, Written, OtherTag, RanGenerated}
+use Rattle.chip_main.specs.declared.course.Course.TheVariants.{Refused, NoMemory, Ran, RanPlain, Written, OtherTag, RanGenerated, RanTraced, Judged}
 use Rattle.chip_main.specs.declared.Done.{Done}
 use Rattle.chip_main.specs.World.{World}
 use Rattle.chip_words.specs.Texts.{tag_differs_line}
@@ -21,15 +22,16 @@ use Rattle.chip_files.specs.Needs.{Need, AreAccepted, HasTold, IsAccepted, IsUnf
 use Rattle.chip_files.specs.Causes.{Asks, AsksFront, AsksNothing, IsRefused, RunsOut, Stops}
 use Rattle.chip_device.specs.Buses.{LiesByScript, lies_of}
 use Rattle.chip_main.specs.Texts.{elf_file, listing, measurement_line}
-use Rattle.chip_main.specs.Requests.{OtherTagRequest, PlainlyRunsRequest, RunsRequest, Writes, WritesRequest}
+use Rattle.chip_main.specs.Requests.{JudgesRequest, OtherTagRequest, PlainlyRunsRequest, RunsRequest, TracesRequest, Writes, WritesRequest}
 use Rattle.chip_main.specs.Status.{IsOneOf, code_of, Telling}
 use Rattle.chip_main.specs.declared.status.Status.{Status}
 use Rattle.chip_main.specs.declared.status.Status.TheVariants as status
-use Rattle.chip_main.specs.Answer.{AreBothAnd, Delivers, DeliversReport, DeliversSummary, GivesPlainRun, GivesReport, GivesRun, GivesSummary, GivesText, LacksMemory, PlainlyRan, RanAndTold, TellsOtherTag, TellsPlain, TellsRefusal, TellsResult, Undone, undone_statuses}
+use Rattle.chip_main.specs.Answer.{AreBothAnd, Delivers, DeliversReport, DeliversSummary, DeliversVerdict, GivesPlainRun, GivesReport, GivesRun, GivesSummary, GivesText, GivesTraced, GivesVerdict, LacksMemory, PlainlyRan, RanAndTold, TellsOtherTag, TellsPlain, TellsRefusal, TellsResult, TracedAndTold, Undone, undone_statuses}
 use Rattle.chip_main.specs.Course.{CameAbout, Outcome, TellsCourse, course_bus, course_run, status_of}
 use Rattle.chip_files.proofs.Accepted.{execution_accepted, program_accepted, run_accepted}
+use Rattle.chip_files.proofs.Judged.{judged_accepted}
 use Rattle.chip_files.proofs.Takings.{asks_more}
-use Rattle.chip_main.proofs.Outcomes.{benched, told_other_tag, told_plain, told_run}
+use Rattle.chip_main.proofs.Outcomes.{benched, judged, told_other_tag, told_plain, told_run, told_traced, traced}
 use Rattle.chip_main.proofs.RunStatuses.{tampers_by_script}
 
 -- ---- where something was done, all files were taken
@@ -51,6 +53,8 @@ ran_taken (Ok (to_disassemble file)) files files' out out' run bus came = absurd
 ran_taken (Ok (to_measure file)) files files' out out' run bus came = absurd came
 ran_taken (Ok (to_verify report)) files files' out out' run bus came = absurd came
 ran_taken (Ok (to_bench number)) files files' out out' run bus came = absurd came
+ran_taken (Ok (to_trace asked)) files files' out out' run bus came = absurd came
+ran_taken (Ok (to_judge judge)) files files' out out' run bus came = absurd came
 
 plainly_ran_taken : (request : Result Asked WordsFault) (files files' : FilesState) (out out' : SinkState) (run : PlainRecord) → PlainlyRunsRequest request files files' out out' run → AllTaken request files files'
 plainly_ran_taken (Err fault) files files' out out' run came = absurd came
@@ -62,6 +66,8 @@ plainly_ran_taken (Ok (to_disassemble file)) files files' out out' run came = ab
 plainly_ran_taken (Ok (to_measure file)) files files' out out' run came = absurd came
 plainly_ran_taken (Ok (to_verify report)) files files' out out' run came = absurd came
 plainly_ran_taken (Ok (to_bench number)) files files' out out' run came = absurd came
+plainly_ran_taken (Ok (to_trace asked)) files files' out out' run came = absurd came
+plainly_ran_taken (Ok (to_judge judge)) files files' out out' run came = absurd came
 
 -- the one file of a request for a text
 text_taken : (asked : Asked) (file : FileAsked) (text : Image → List ℕ) (files files' : FilesState) (out out' : SinkState) (telling : Telling) → asked_needs asked ≡ program_need file ∷ [] → Writes file text files files' out out' telling →
@@ -83,6 +89,8 @@ written_taken (Ok (to_disassemble file)) files files' out out' telling came = te
 written_taken (Ok (to_measure file)) files files' out out' telling came = text_taken (to_measure file) file measurement_line files files' out out' telling refl came
 written_taken (Ok (to_verify report)) files files' out out' telling came = report_taken report files files' came.text came.reads
 written_taken (Ok (to_bench number)) files files' out out' telling came = absurd came
+written_taken (Ok (to_trace asked)) files files' out out' telling came = absurd came
+written_taken (Ok (to_judge judge)) files files' out out' telling came = absurd came
 
 other_tag_taken : (request : Result Asked WordsFault) (files files' : FilesState) → OtherTagRequest request files files' → AllTaken request files files'
 other_tag_taken (Err fault) files files' came = absurd came
@@ -93,6 +101,22 @@ other_tag_taken (Ok (to_disassemble file)) files files' came = absurd came
 other_tag_taken (Ok (to_measure file)) files files' came = absurd came
 other_tag_taken (Ok (to_verify report)) files files' came = report_taken report files files' came.0 came.1
 other_tag_taken (Ok (to_bench number)) files files' came = absurd came
+other_tag_taken (Ok (to_trace asked)) files files' came = absurd came
+other_tag_taken (Ok (to_judge judge)) files files' came = absurd came
+
+traced_taken : (request : Result Asked WordsFault) (files files' : FilesState) (out out' : SinkState) (run : RunRecord) (bus : RunBus) (telling : Telling) → TracesRequest request files files' out out' run bus telling → AllTaken request files files'
+traced_taken request files files' out out' run bus telling came =
+    let found = traced request files files' out out' run bus telling came in
+    let traces = found.2 in
+    subst (λ (r : Result Asked WordsFault). AllTaken r files files') (sym found.1)
+    (all_taken (to_trace found.0) files files' traces.reads.asked (run_accepted found.0 files files' traces.program traces.script traces.input traces.reads))
+
+judged_taken : (request : Result Asked WordsFault) (files files' : FilesState) (out out' : SinkState) (difference : Option Difference) (telling : Telling) → JudgesRequest request files files' out out' difference telling → AllTaken request files files'
+judged_taken request files files' out out' difference telling came =
+    let found = judged request files files' out out' difference telling came in
+    let judges = found.2 in
+    subst (λ (r : Result Asked WordsFault). AllTaken r files files') (sym found.1)
+    (all_taken (to_judge found.0) files files' judges.reads.asked (judged_accepted found.0 files files' judges.program judges.input judges.trace judges.reads))
 
 -- ---- what was asked for
 
@@ -118,6 +142,7 @@ front (Refused (Elf fault)) request files files' out out' came = front_stops (El
 front (Refused (Asm line fault)) request files files' out out' came = front_stops (Asm line fault) (needs_of request) files files' came.0
 front (Refused (Script line fault)) request files files' out out' came = front_stops (Script line fault) (needs_of request) files files' came.0
 front (Refused (Report fault)) request files files' out out' came = front_stops (Report fault) (needs_of request) files files' came.0
+front (Refused (trace_refused fault)) request files files' out out' came = front_stops (trace_refused fault) (needs_of request) files files' came.0
 front NoMemory request files files' out out' came =
     (came.0.before ++ came.0.tried, (came.0.after, came.0.order), came.0.asked)
 front (Ran run bus) request files files' out out' came = front_all (needs_of request) files files' (ran_taken request files files' out out' run bus came).asked
@@ -126,6 +151,9 @@ front (Written telling) request files files' out out' came = front_all (needs_of
 front OtherTag request files files' out out' came = front_all (needs_of request) files files' (other_tag_taken request files files' came.0).asked
 front (RanGenerated run bus telling) request files files' out out' came =
     front_none (needs_of request) files files' (benched request files files' out out' run bus telling came).2.asked
+front (RanTraced run bus telling) request files files' out out' came = front_all (needs_of request) files files' (traced_taken request files files' out out' run bus telling came).asked
+front (Judged difference telling) request files files' out out' came =
+    front_all (needs_of request) files files' (judged_taken request files files' out out' difference telling came).asked
 
 pub asks_front : {request : Result Asked WordsFault} {old new : World} {done : Done} → Outcome request old new done → AsksFront (needs_of request) old.files new.files
 asks_front {request} {old} {new} o = front o.course request old.files new.files old.out new.out o.came
@@ -186,12 +214,14 @@ refusal_unrun (Elf fault) (Ok _) asked files files' cause = (0, omega arith, ref
 refusal_unrun (Asm line fault) (Ok _) asked files files' cause = (0, omega arith, refl)
 refusal_unrun (Script line fault) (Ok _) asked files files' cause = (0, omega arith, refl)
 refusal_unrun (Report fault) (Ok _) asked files files' cause = (0, omega arith, refl)
+refusal_unrun (trace_refused fault) (Ok _) asked files files' cause = (0, omega arith, refl)
 refusal_unrun Unread (Err Failed) asked files files' cause = (1, omega arith, refl)
 refusal_unrun TooLong (Err Failed) asked files files' cause = (0, omega arith, refl)
 refusal_unrun (Elf fault) (Err Failed) asked files files' cause = (0, omega arith, refl)
 refusal_unrun (Asm line fault) (Err Failed) asked files files' cause = (0, omega arith, refl)
 refusal_unrun (Script line fault) (Err Failed) asked files files' cause = (0, omega arith, refl)
 refusal_unrun (Report fault) (Err Failed) asked files files' cause = (0, omega arith, refl)
+refusal_unrun (trace_refused fault) (Err Failed) asked files files' cause = (0, omega arith, refl)
 
 no_memory_unrun : (telling : Telling) → IsOneOf unrun_statuses (code_of (status_of NoMemory telling))
 no_memory_unrun (Ok _) = (2, omega arith, refl)
@@ -208,6 +238,7 @@ refusal_listed (Err why) (Elf fault) telling files files' cause = absurd (nothin
 refusal_listed (Err why) (Asm line fault) telling files files' cause = absurd (nothing_stops (Asm line fault) [] files files' refl cause)
 refusal_listed (Err why) (Script line fault) telling files files' cause = absurd (nothing_stops (Script line fault) [] files files' refl cause)
 refusal_listed (Err why) (Report fault) telling files files' cause = absurd (nothing_stops (Report fault) [] files files' refl cause)
+refusal_listed (Err why) (trace_refused fault) telling files files' cause = absurd (nothing_stops (trace_refused fault) [] files files' refl cause)
 
 lack_listed : (request : Result Asked WordsFault) (telling : Telling) → IsOneOf (undone_statuses request) (code_of (status_of NoMemory telling))
 lack_listed (Ok asked) telling = no_memory_unrun telling
@@ -235,6 +266,8 @@ IfUndone (RanPlain run) P = Unit {0}
 IfUndone (Written telling) P = Unit {0}
 IfUndone OtherTag P = Unit {0}
 IfUndone (RanGenerated run bus telling) P = Unit {0}
+IfUndone (RanTraced run bus telling) P = Unit {0}
+IfUndone (Judged difference telling) P = Unit {0}
 
 undone_of : (course : Course) (telling : Telling) (request : Result Asked WordsFault) (old new : World) (done : Done) → CameAbout course request old.files new.files old.out new.out → TellsCourse course old.note new.note telling →
     done.status ≡ code_of (status_of course telling) → done.run ≡ course_run course → IfUndone course (Undone request old new done)
@@ -255,6 +288,8 @@ undone_of (RanPlain run) telling request old new done came tells status_is run_i
 undone_of (Written written) telling request old new done came tells status_is run_is = tt
 undone_of OtherTag telling request old new done came tells status_is run_is = tt
 undone_of (RanGenerated run bus written) telling request old new done came tells status_is run_is = tt
+undone_of (RanTraced run bus written) telling request old new done came tells status_is run_is = tt
+undone_of (Judged difference written) telling request old new done came tells status_is run_is = tt
 
 -- the same for a request that is known
 undone : {request : Result Asked WordsFault} {old new : World} {done : Done} → (o : Outcome request old new done) → (is : Result Asked WordsFault) → request ≡ is → IfUndone o.course (Undone is old new done)
@@ -275,6 +310,8 @@ undone_without (RanPlain run) why P files files' out out' came holds = absurd ca
 undone_without (Written telling) why P files files' out out' came holds = absurd came
 undone_without OtherTag why P files files' out out' came holds = absurd came.0
 undone_without (RanGenerated run bus telling) why P files files' out out' came holds = absurd came
+undone_without (RanTraced run bus telling) why P files files' out out' came holds = absurd came
+undone_without (Judged difference telling) why P files files' out out' came holds = absurd came
 
 pub none : {request : Result Asked WordsFault} {old new : World} {done : Done} → Outcome request old new done → (why : WordsFault) → request ≡ Err why → AsksNothing old.files new.files × Undone (Err why) old new done
 none {request} {old} {new} {done} o why is =
@@ -294,6 +331,8 @@ ran (RanPlain run) telling asked P old new done came tells status_is lies_is by_
 ran (Written written) telling asked P old new done came tells status_is lies_is by_script holds = absurd came
 ran OtherTag telling asked P old new done came tells status_is lies_is by_script holds = absurd came.0
 ran (RanGenerated run bus written) telling asked P old new done came tells status_is lies_is by_script holds = absurd came
+ran (RanTraced run bus written) telling asked P old new done came tells status_is lies_is by_script holds = absurd came
+ran (Judged difference written) telling asked P old new done came tells status_is lies_is by_script holds = absurd came
 
 -- the run and the bus of the course are the answer's
 of_answer : {request : Result Asked WordsFault} {old new : World} {done : Done} → (o : Outcome request old new done) → (P : RunRecord → RunBus → Type 0) (Q : Type 0) → AreBothAnd (course_run o.course) (course_bus o.course) P ⊎ Q →
@@ -322,6 +361,8 @@ plainly_ran (RanPlain run) telling execution P old new done came tells status_is
 plainly_ran (Written written) telling execution P old new done came tells status_is run_is holds = absurd came
 plainly_ran OtherTag telling execution P old new done came tells status_is run_is holds = absurd came.0
 plainly_ran (RanGenerated run bus written) telling execution P old new done came tells status_is run_is holds = absurd came
+plainly_ran (RanTraced run bus written) telling execution P old new done came tells status_is run_is holds = absurd came
+plainly_ran (Judged difference written) telling execution P old new done came tells status_is run_is holds = absurd came
 
 pub plain : {request : Result Asked WordsFault} {old new : World} {done : Done} → Outcome request old new done → (execution : ExecutionAsked) → request ≡ Ok (to_run_plain execution) → GivesPlainRun execution old new done
 plain {request} {old} {new} {done} o execution asks =
@@ -342,6 +383,8 @@ WritesOr (RanPlain run) file text files files' out out' = ⊥
 WritesOr (Written telling) file text files files' out out' = Writes file text files files' out out' telling
 WritesOr OtherTag file text files files' out out' = ⊥
 WritesOr (RanGenerated run bus telling) file text files files' out out' = ⊥
+WritesOr (RanTraced run bus telling) file text files files' out out' = ⊥
+WritesOr (Judged difference telling) file text files files' out out' = ⊥
 
 delivered_or : (course : Course) (telling : Telling) (file : FileAsked) (text : Image → List ℕ) (P : Type 0) (old new : World) (done : Done) → WritesOr course file text old.files new.files old.out new.out →
     TellsCourse course old.note new.note telling → done.status ≡ code_of (status_of course telling) → done.run ≡ course_run course → IfUndone course P → Delivers file text old new done ⊎ P
@@ -353,6 +396,8 @@ delivered_or (Written written) telling file text P old new done writes tells sta
     inl (delivered file text written telling old new done writes tells status_is run_is)
 delivered_or OtherTag telling file text P old new done writes tells status_is run_is holds = absurd writes
 delivered_or (RanGenerated run bus written) telling file text P old new done writes tells status_is run_is holds = absurd writes
+delivered_or (RanTraced run bus written) telling file text P old new done writes tells status_is run_is holds = absurd writes
+delivered_or (Judged difference written) telling file text P old new done writes tells status_is run_is holds = absurd writes
 
 gives_text : {request : Result Asked WordsFault} {old new : World} {done : Done} → (o : Outcome request old new done) → (asked : Asked) (file : FileAsked) (text : Image → List ℕ) → request ≡ Ok asked →
     WritesOr o.course file text old.files new.files old.out new.out → GivesText asked file text old new done
@@ -368,6 +413,8 @@ asm_came (RanPlain run) file files files' out out' came = came
 asm_came (Written telling) file files files' out out' came = came
 asm_came OtherTag file files files' out out' came = came.0
 asm_came (RanGenerated run bus telling) file files files' out out' came = came
+asm_came (RanTraced run bus telling) file files files' out out' came = came
+asm_came (Judged difference telling) file files files' out out' came = came
 
 pub dis_came : (course : Course) (file : FileAsked) (files files' : FilesState) (out out' : SinkState) → CameAbout course (Ok (to_disassemble file)) files files' out out' → WritesOr course file listing files files' out out'
 dis_came (Refused refusal) file files files' out out' came = tt
@@ -377,6 +424,8 @@ dis_came (RanPlain run) file files files' out out' came = came
 dis_came (Written telling) file files files' out out' came = came
 dis_came OtherTag file files files' out out' came = came.0
 dis_came (RanGenerated run bus telling) file files files' out out' came = came
+dis_came (RanTraced run bus telling) file files files' out out' came = came
+dis_came (Judged difference telling) file files files' out out' came = came
 
 pub measure_came : (course : Course) (file : FileAsked) (files files' : FilesState) (out out' : SinkState) → CameAbout course (Ok (to_measure file)) files files' out out' → WritesOr course file measurement_line files files' out out'
 measure_came (Refused refusal) file files files' out out' came = tt
@@ -386,6 +435,8 @@ measure_came (RanPlain run) file files files' out out' came = came
 measure_came (Written telling) file files files' out out' came = came
 measure_came OtherTag file files files' out out' came = came.0
 measure_came (RanGenerated run bus telling) file files files' out out' came = came
+measure_came (RanTraced run bus telling) file files files' out out' came = came
+measure_came (Judged difference telling) file files files' out out' came = came
 
 pub asm : {request : Result Asked WordsFault} {old new : World} {done : Done} → Outcome request old new done → (file : FileAsked) → request ≡ Ok (to_assemble file) → GivesText (to_assemble file) file elf_file old new done
 asm {old = old} {new = new} o file asks =
@@ -421,6 +472,8 @@ verified OtherTag telling asked P old new done came tells status_is run_is holds
   silent = came.1;
 }))
 verified (RanGenerated run bus written) telling asked P old new done came tells status_is run_is holds = absurd came
+verified (RanTraced run bus written) telling asked P old new done came tells status_is run_is holds = absurd came
+verified (Judged difference written) telling asked P old new done came tells status_is run_is holds = absurd came
 
 pub verify : {request : Result Asked WordsFault} {old new : World} {done : Done} → Outcome request old new done → (asked : ReportAsked) → request ≡ Ok (to_verify asked) → GivesReport asked old new done
 verify {request} {old} {new} {done} o asked asks =
@@ -442,6 +495,8 @@ summarized (RanGenerated run bus written) telling number P old new done came tel
   status_is = status_is ∙ ap (λ t. code_of (status_of (RanGenerated run bus written) t)) tells.1;
   silent = tells.0;
 })
+summarized (RanTraced run bus written) telling number P old new done came tells status_is holds = absurd came
+summarized (Judged difference written) telling number P old new done came tells status_is holds = absurd came
 
 pub bench : {request : Result Asked WordsFault} {old new : World} {done : Done} → Outcome request old new done → (number : ℕ) → request ≡ Ok (to_bench number) → GivesSummary number old new done
 bench {request} {old} {new} {done} o number asks =
@@ -449,7 +504,57 @@ bench {request} {old} {new} {done} o number asks =
     (summarized o.course o.told number (Undone (Ok (to_bench number)) old new done) old new done
     (came_as o (Ok (to_bench number)) asks) o.tells o.status (undone o (Ok (to_bench number)) asks))
 
--- it needs no file, so nothing is refused
+-- a program ran for its trace
+ran_traced : (course : Course) (telling : Telling) (asked : RunAsked) (P : Type 0) (old new : World) (done : Done) → CameAbout course (Ok (to_trace asked)) old.files new.files old.out new.out → TellsCourse course old.note new.note telling →
+    done.status ≡ code_of (status_of course telling) → done.lies ≡ lies_of (course_bus course) → IfSome (course_bus course) LiesByScript → IfUndone course P →
+    AreBothAnd (course_run course) (course_bus course) (TracedAndTold asked old new done) ⊎ P
+ran_traced (Refused refusal) telling asked P old new done came tells status_is lies_is by_script holds = inr holds
+ran_traced NoMemory telling asked P old new done came tells status_is lies_is by_script holds = inr holds
+ran_traced (Ran run bus) telling asked P old new done came tells status_is lies_is by_script holds = absurd came
+ran_traced (RanPlain run) telling asked P old new done came tells status_is lies_is by_script holds = absurd came
+ran_traced (Written written) telling asked P old new done came tells status_is lies_is by_script holds = absurd came
+ran_traced OtherTag telling asked P old new done came tells status_is lies_is by_script holds = absurd came.0
+ran_traced (RanGenerated run bus written) telling asked P old new done came tells status_is lies_is by_script holds = absurd came
+ran_traced (RanTraced run bus written) telling asked P old new done came tells status_is lies_is by_script holds = inl (record {
+  telling = written;
+  traces = came;
+  by_script = tampers_by_script bus by_script came.traced.runs;
+  tells = rw (status_is, lies_is) (told_traced run bus written telling old.note new.note tells);
+})
+ran_traced (Judged difference written) telling asked P old new done came tells status_is lies_is by_script holds = absurd came
+
+pub trace : {request : Result Asked WordsFault} {old new : World} {done : Done} → Outcome request old new done → (asked : RunAsked) → request ≡ Ok (to_trace asked) → GivesTraced asked old new done
+trace {request} {old} {new} {done} o asked asks =
+    of_answer o (TracedAndTold asked old new done) (Undone (Ok (to_trace asked)) old new done)
+    (ran_traced o.course o.told asked (Undone (Ok (to_trace asked)) old new done) old new done
+    (came_as o (Ok (to_trace asked)) asks) o.tells o.status o.lies o.by_script (undone o (Ok (to_trace asked)) asks))
+
+-- a trace was judged
+delivered_verdict : (course : Course) (telling : Telling) (judge : JudgeAsked) (P : Type 0) (old new : World) (done : Done) → CameAbout course (Ok (to_judge judge)) old.files new.files old.out new.out → TellsCourse course old.note new.note telling →
+    done.status ≡ code_of (status_of course telling) → done.run ≡ course_run course → IfUndone course P → DeliversVerdict judge old new done ⊎ P
+delivered_verdict (Refused refusal) telling judge P old new done came tells status_is run_is holds = inr holds
+delivered_verdict NoMemory telling judge P old new done came tells status_is run_is holds = inr holds
+delivered_verdict (Ran run bus) telling judge P old new done came tells status_is run_is holds = absurd came
+delivered_verdict (RanPlain run) telling judge P old new done came tells status_is run_is holds = absurd came
+delivered_verdict (Written written) telling judge P old new done came tells status_is run_is holds = absurd came
+delivered_verdict OtherTag telling judge P old new done came tells status_is run_is holds = absurd came.0
+delivered_verdict (RanGenerated run bus written) telling judge P old new done came tells status_is run_is holds = absurd came
+delivered_verdict (RanTraced run bus written) telling judge P old new done came tells status_is run_is holds = absurd came
+delivered_verdict (Judged difference written) telling judge P old new done came tells status_is run_is holds = inl (record {
+  difference = difference;
+  telling = written;
+  judges = came;
+  status_is = status_is ∙ ap (λ t. code_of (status_of (Judged difference written) t)) tells.1;
+  no_run = run_is;
+  silent = tells.0;
+})
+
+pub judge : {request : Result Asked WordsFault} {old new : World} {done : Done} → Outcome request old new done → (asked : JudgeAsked) → request ≡ Ok (to_judge asked) → GivesVerdict asked old new done
+judge {request} {old} {new} {done} o asked asks =
+    delivered_verdict o.course o.told asked (Undone (Ok (to_judge asked)) old new done) old new done
+    (came_as o (Ok (to_judge asked)) asks) o.tells o.status o.run (undone o (Ok (to_judge asked)) asks)
+
+-- a generated program needs no file, so nothing is refused
 pub unrefused_bench : (refusal : Refusal) (number : ℕ) (files files' : FilesState) → ¬ IsRefused refusal (Ok (to_bench number)) files files'
 unrefused_bench (Usage text) number files files' cause = not_both (to_bench number) _ cause.0
 unrefused_bench (WrongValue fault) number files files' cause = not_both (to_bench number) _ cause.0
@@ -459,6 +564,7 @@ unrefused_bench (Elf fault) number files files' cause = nothing_stops (Elf fault
 unrefused_bench (Asm line fault) number files files' cause = nothing_stops (Asm line fault) [] files files' refl cause
 unrefused_bench (Script line fault) number files files' cause = nothing_stops (Script line fault) [] files files' refl cause
 unrefused_bench (Report fault) number files files' cause = nothing_stops (Report fault) [] files files' refl cause
+unrefused_bench (trace_refused fault) number files files' cause = nothing_stops (trace_refused fault) [] files files' refl cause
 
 -- ---- files that are to be refused
 
@@ -496,6 +602,7 @@ refusal_unfit (Elf fault) (Ok _) before need after request files files' order ca
 refusal_unfit (Asm line fault) (Ok _) before need after request files files' order cause = (0, omega arith, refl)
 refusal_unfit (Script line fault) (Ok _) before need after request files files' order cause = (0, omega arith, refl)
 refusal_unfit (Report fault) (Ok _) before need after request files files' order cause = (0, omega arith, refl)
+refusal_unfit (trace_refused fault) (Ok _) before need after request files files' order cause = (0, omega arith, refl)
 refusal_unfit (Usage text) (Err Failed) before need after request files files' order cause = absurd (no_place before need after (sym (ap needs_of cause.0) ∙ order))
 refusal_unfit (WrongValue fault) (Err Failed) before need after request files files' order cause = absurd (no_place before need after (sym (ap needs_of cause.0) ∙ order))
 refusal_unfit Unread (Err Failed) before need after request files files' order cause = (1, omega arith, refl)
@@ -504,6 +611,7 @@ refusal_unfit (Elf fault) (Err Failed) before need after request files files' or
 refusal_unfit (Asm line fault) (Err Failed) before need after request files files' order cause = (0, omega arith, refl)
 refusal_unfit (Script line fault) (Err Failed) before need after request files files' order cause = (0, omega arith, refl)
 refusal_unfit (Report fault) (Err Failed) before need after request files files' order cause = (0, omega arith, refl)
+refusal_unfit (trace_refused fault) (Err Failed) before need after request files files' order cause = (0, omega arith, refl)
 
 no_memory_unfit : (telling : Telling) → IsOneOf unrun_statuses (code_of (status_of NoMemory telling))
 no_memory_unfit (Ok _) = (2, omega arith, refl)
@@ -524,6 +632,10 @@ unfit_listed OtherTag telling before need after bytes request files files' out o
     absurd (untaken before need after bytes request files files' order content unfit (other_tag_taken request files files' came.0))
 unfit_listed (RanGenerated run bus written) telling before need after bytes request files files' out out' order content unfit came =
     absurd (no_place before need after (sym (ap needs_of (benched request files files' out out' run bus written came).1) ∙ order))
+unfit_listed (RanTraced run bus written) telling before need after bytes request files files' out out' order content unfit came =
+    absurd (untaken before need after bytes request files files' order content unfit (traced_taken request files files' out out' run bus written came))
+unfit_listed (Judged difference written) telling before need after bytes request files files' out out' order content unfit came =
+    absurd (untaken before need after bytes request files files' order content unfit (judged_taken request files files' out out' difference written came))
 
 pub unfit : {request : Result Asked WordsFault} {old new : World} {done : Done} → Outcome request old new done → (before after : List Need) (need : Need) (bytes : List ℕ) →
     needs_of request ≡ before ++ need ∷ after → HasTold old.files.held need.name bytes → IsUnfit need bytes → IsOneOf unrun_statuses done.status

@@ -3,23 +3,27 @@ use Rattle.std.proofs.Common.{◌≡◌, ◌≢◌, ◌<◌, ◌≤◌, ◌⊎�
 use Rattle.adversary_script.specs.declared.script.ScriptLine.{ScriptLine}
 use Rattle.sec_base.specs.Count.{Rose}
 use Rattle.sec_base.specs.Files.{FilesState, HasBytes, HasOver, IsOver}
-use Rattle.sec_base.specs.Sink.{SinkState}
+use Rattle.sec_base.specs.Geometry.{GeometryView}
+use Rattle.sec_base.specs.Sink.{Gains, SinkState}
 use Rattle.sec_base.specs.declared.ending.Ending.{Ending}
-use Rattle.sec_base.specs.declared.ending.Ending.TheVariants.{NoMemory as memory_ended}
+use Rattle.sec_base.specs.declared.ending.Ending.TheVariants.{Halted, Trapped, OutOfSteps, Tampered, Spent, WriteFault, NoMemory as memory_ended}
 use Rattle.sec_base.specs.declared.image.Image.{Image}
 use Rattle.sec_base.specs.declared.sink.SinkStop.TheVariants.{Failed, NoMemory as no_memory}
+use Rattle.attest_report.specs.ToldEnding.{ending_and_code}
 use Rattle.bus_model.specs.BusHistory.{BusHistory, new_history}
+use Rattle.bus_trace.specs.declared.trace.Trace.{Trace}
+use Rattle.bus_trace.specs.declared.verdict.Difference.{Difference}
 use Rattle.rv32_core.specs.Follows.{IsWhole}
 use Rattle.plain_machine.specs.declared.PlainRecord.{PlainRecord}
 use Rattle.chip_run.specs.Run.{IsCutOff, RunsProtected, Terms}
 use Rattle.chip_run.specs.declared.RunRecord.{RunRecord}
-use Rattle.chip_words.specs.Request.{Asked, ExecutionAsked, FileAsked, ReportAsked, RunAsked, WordsFault, to_assemble, to_disassemble, to_measure, to_run, to_run_plain, to_verify, to_bench}
+use Rattle.chip_words.specs.Request.{Asked, ExecutionAsked, FileAsked, JudgeAsked, ReportAsked, RunAsked, WordsFault, to_assemble, to_bench, to_disassemble, to_judge, to_measure, to_run, to_run_plain, to_trace, to_verify}
 use Rattle.sec_base.specs.Program.{Program}
 use Rattle.chip_files.specs.declared.refusal.Refusal.{Refusal}
-use Rattle.chip_files.specs.declared.refusal.Refusal.TheVariants.{Usage, WrongValue, Unread, TooLong, Elf, Asm, Script, Report}
+use Rattle.chip_files.specs.declared.refusal.Refusal.TheVariants.{Usage, WrongValue, Unread, TooLong, Elf, Asm, Script, Report, Trace as trace_refused}
 use Rattle.chip_device.specs.declared.run_bus.RunBus.{RunBus}
 use Rattle.chip_main.specs.declared.course.Course.{Course}
-use Rattle.chip_main.specs.declared.course.Course.TheVariants.{Refused, NoMemory, Ran, RanPlain, Written, OtherTag, RanGenerated}
+use Rattle.chip_main.specs.declared.course.Course.TheVariants.{Refused, NoMemory, Ran, RanPlain, Written, OtherTag, RanGenerated, RanTraced, Judged}
 use Rattle.chip_main.specs.declared.Done.{Done}
 use Rattle.workload_gen.specs.Workload.{workload_of}
 use Rattle.chip_files.specs.Program.{program_of_file}
@@ -30,19 +34,24 @@ use Rattle.attest_report.specs.declared.refusal.ReportError.{ReportError}
 use Rattle.attest_report.specs.declared.refusal.ReportError.TheVariants.{Tag}
 use Rattle.chip_files.specs.Verdict.{verdict_of}
 use Rattle.chip_files.specs.Needs.{Need, AreAccepted, HasTold, IsAccepted, asked_needs, report_need}
+use Rattle.chip_files.specs.Traces.{trace_in}
 use Rattle.chip_files.specs.Causes.{IsCause, IsMisformed, IsRefused, Stops}
-use Rattle.chip_files.specs.Taken.{IsInput, IsProgram, Tell}
+use Rattle.chip_files.specs.Taken.{IsInput, IsProgram, IsTraceFile, Tell}
 use Rattle.chip_device.specs.Buses.{lies_of, run_history}
-use Rattle.chip_device.specs.Generated.{gathered, generated_execution, generated_run}
-use Rattle.chip_main.specs.Status.{IsOneOf, code_of, Telling, ending_status, run_status, told_status}
+use Rattle.chip_device.specs.Generated.{generated_execution, generated_run}
+use Rattle.chip_device.specs.Judged.{IsJudged}
+use Rattle.chip_device.specs.Printed.{gathered}
+use Rattle.chip_device.specs.Traced.{IsTold}
+use Rattle.chip_main.specs.Status.{IsOneOf, code_of, Telling, ending_status, found_status, judged_status, run_status, told_status}
 use Rattle.chip_main.specs.declared.status.Status.{Status}
 use Rattle.chip_main.specs.declared.status.Status.TheVariants as status
 use Rattle.chip_main.specs.Answer.{AreBothAnd}
-use Rattle.chip_main.specs.Whole.{Faultless, RanWhole, Ready, plain_status, verdict_status, whole_statuses}
-use Rattle.chip_main.specs.Requests.{PlainlyRuns, RunsRequested, Summarizes, Writes, WritesReport}
+use Rattle.chip_main.specs.Whole.{Faultless, JudgedWhole, RanWhole, Ready, TracedWhole, WroteTrace, plain_status, verdict_status, whole_statuses}
+use Rattle.chip_main.specs.Requests.{Judges, PlainlyRuns, RunsRequested, Summarizes, Traces, Writes, WritesReport}
 use Rattle.chip_main.specs.Course.{CameAbout, Outcome, TellsCourse, course_bus, course_run, status_of}
-use Rattle.chip_main.specs.Texts.{elf_file, listing, measurement_line}
+use Rattle.chip_main.specs.Texts.{elf_file, listing, measurement_line, verdict_line}
 use Rattle.chip_files.proofs.Accepted.{all_accepted, input_accepted, program_accepted}
+use Rattle.chip_files.proofs.Judged.{all_judged_accepted}
 use Rattle.chip_files.proofs.Takings.{whole_cause}
 use Rattle.chip_files.proofs.Verdicts.{made_verdict}
 use Rattle.chip_main.proofs.Requested.{WritesOr, accepted_at, asm_came, came_as, dis_came, measure_came, same_bytes, unrefused_bench}
@@ -79,6 +88,7 @@ no_cause (Elf fault) need bytes files files' tells accepted quiet cause = formed
 no_cause (Asm line fault) need bytes files files' tells accepted quiet cause = formed (Asm line fault) need bytes files tells accepted cause
 no_cause (Script line fault) need bytes files files' tells accepted quiet cause = formed (Script line fault) need bytes files tells accepted cause
 no_cause (Report fault) need bytes files files' tells accepted quiet cause = formed (Report fault) need bytes files tells accepted cause
+no_cause (trace_refused fault) need bytes files files' tells accepted quiet cause = formed (trace_refused fault) need bytes files tells accepted cause
 
 no_stop : (refusal : Refusal) (needs : List Need) (files files' : FilesState) → Tell files → AreAccepted files needs → ¬ Rose files.faults files'.faults → ¬ Stops refusal needs files files'
 no_stop refusal needs files files' tells accepted quiet stops =
@@ -94,6 +104,7 @@ unrefused (Elf fault) asked files files' tells accepted quiet cause = no_stop (E
 unrefused (Asm line fault) asked files files' tells accepted quiet cause = no_stop (Asm line fault) (asked_needs asked) files files' tells accepted quiet cause
 unrefused (Script line fault) asked files files' tells accepted quiet cause = no_stop (Script line fault) (asked_needs asked) files files' tells accepted quiet cause
 unrefused (Report fault) asked files files' tells accepted quiet cause = no_stop (Report fault) (asked_needs asked) files files' tells accepted quiet cause
+unrefused (trace_refused fault) asked files files' tells accepted quiet cause = no_stop (trace_refused fault) (asked_needs asked) files files' tells accepted quiet cause
 
 -- all that is needed is accepted
 ready_accepted : (asked : Asked) (files : FilesState) (program : Program) (script : Option (List ScriptLine)) (input : List ℕ) → Ready asked files program script input → AreAccepted files (asked_needs asked)
@@ -105,6 +116,9 @@ ready_accepted (to_disassemble file) files program script input ready = (program
 ready_accepted (to_measure file) files program script input ready = (program_accepted file program files ready.program_is, tt)
 ready_accepted (to_verify report) files program script input ready = absurd ready.program_is
 ready_accepted (to_bench number) files program script input ready = absurd ready.program_is
+ready_accepted (to_trace asked) files program script input ready = all_accepted asked files program script input ready.program_is ready.script_is ready.input_is
+ready_accepted (to_judge judge) files program script input ready =
+    all_judged_accepted judge files program input ready.trace_is.0 ready.program_is ready.input_is ready.trace_is.1
 
 -- ---- what was taken is what is ready
 
@@ -116,6 +130,11 @@ same_program : (files : FilesState) (file : FileAsked) (program other : Program)
 same_program files file program other tells ready taken =
     let same = told_bytes files file.name ready.bytes taken.bytes tells ready.accepted.told taken.accepted.told in
     let e : Ok other ≡ Ok program = sym taken.is ∙ ap (program_of_file file) same ∙ ready.is in cc
+
+same_trace : (files : FilesState) (geometry : GeometryView) (name : List ℕ) (trace other : Trace) → Tell files → IsTraceFile files geometry name trace → IsTraceFile files geometry name other → other ≡ trace
+same_trace files geometry name trace other tells ready taken =
+    let same = told_bytes files name ready.bytes taken.bytes tells ready.accepted.told taken.accepted.told in
+    let e : Ok other ≡ Ok trace = sym taken.is ∙ ap (trace_in geometry) same ∙ ready.is in cc
 
 memory_cases : (ending : Ending) → (ending ≡ memory_ended) ⊎ (ending ≢ memory_ended)
 memory_cases memory_ended = inl refl
@@ -143,18 +162,33 @@ not_cut_off : {terms : Terms} {out out' : SinkState} {before after : BusHistory}
 not_cut_off runs quiet had (inl fault) = quiet (runs.sink.write_fault fault)
 not_cut_off runs quiet had (inr gone) = had gone
 
-ran_whole : (asked : RunAsked) (program : Program) (input : List ℕ) (out out' : SinkState) (before : BusHistory) (bus : RunBus) (run : RunRecord) → RunsProtected (terms_of asked program input) out out' before (run_history bus) run → (run_history bus).lies ≡ 0 → ¬ Rose out.faults out'.faults →
-    IsOneOf other_statuses (code_of (run_status run)) ⊎ IsRunWhole asked.execution program input (code_of (run_status run)) run bus
-ran_whole asked program input out out' before bus run runs none quiet =
+-- out of memory, or a page was spent, or the whole budget
+abbrev pub WholeOr : ExecutionAsked → Program → List ℕ → ℕ → RunRecord → RunBus → Type 0
+WholeOr execution program input status run bus = (status ≡ 10) ⊎ (status ≡ 6) ⊎ IsRunWhole execution program input status run bus
+
+ran_whole_or : (asked : RunAsked) (program : Program) (input : List ℕ) (out out' : SinkState) (before : BusHistory) (bus : RunBus) (run : RunRecord) → RunsProtected (terms_of asked program input) out out' before (run_history bus) run → (run_history bus).lies ≡ 0 → ¬ Rose out.faults out'.faults →
+    WholeOr asked.execution program input (code_of (run_status run)) run bus
+ran_whole_or asked program input out out' before bus run runs none quiet =
     let without = honest_without_evidence runs none in
     let ending_is = run_status_without_evidence run without in
     elim (memory_cases run.ending) [
-      | inl gone ↦ inl (other (code_of (run_status run)) (ending_is ∙ ap (λ e. code_of (ending_status e)) gone))
+      | inl gone ↦ inl (ending_is ∙ ap (λ e. code_of (ending_status e)) gone)
       | inr had ↦ elim ((runs.ran.without_evidence without).plain.whole none (not_cut_off runs quiet had)) [
-        | inl whole ↦ inr (whole, ending_is)
-        | inr spent ↦ inl (used_up (code_of (run_status run)) (ending_is ∙ ap (λ e. code_of (ending_status e)) spent.1))
+        | inl whole ↦ inr (inr (whole, ending_is))
+        | inr spent ↦ inr (inl (ending_is ∙ ap (λ e. code_of (ending_status e)) spent.1))
       ]
     ]
+
+whole_or : (execution : ExecutionAsked) (program : Program) (input : List ℕ) (status : ℕ) (run : RunRecord) (bus : RunBus) → WholeOr execution program input status run bus →
+    IsOneOf other_statuses status ⊎ IsRunWhole execution program input status run bus
+whole_or execution program input status run bus (inl gone) = inl (other status gone)
+whole_or execution program input status run bus (inr (inl spent)) = inl (used_up status spent)
+whole_or execution program input status run bus (inr (inr whole)) = inr whole
+
+ran_whole : (asked : RunAsked) (program : Program) (input : List ℕ) (out out' : SinkState) (before : BusHistory) (bus : RunBus) (run : RunRecord) → RunsProtected (terms_of asked program input) out out' before (run_history bus) run → (run_history bus).lies ≡ 0 → ¬ Rose out.faults out'.faults →
+    IsOneOf other_statuses (code_of (run_status run)) ⊎ IsRunWhole asked.execution program input (code_of (run_status run)) run bus
+ran_whole asked program input out out' before bus run runs none quiet =
+    whole_or asked.execution program input (code_of (run_status run)) run bus (ran_whole_or asked program input out out' before bus run runs none quiet)
 
 ran_ready : (asked : RunAsked) (program : Program) (script : Option (List ScriptLine)) (input : List ℕ) (files files' : FilesState) (out out' : SinkState) (run : RunRecord) (bus : RunBus) → Ready (to_run asked) files program script input → RunsRequested asked files files' out out' run bus →
     (run_history bus).lies ≡ 0 → ¬ Rose out.faults out'.faults → IsOneOf other_statuses (code_of (run_status run)) ⊎ IsRunWhole asked.execution program input (code_of (run_status run)) run bus
@@ -185,6 +219,10 @@ whole_of OtherTag (Ok _) asked program script input files files' out out' note n
 whole_of OtherTag (Err Failed) asked program script input files files' out out' note note' came tells ready none quiet_files quiet_out quiet_note = absurd came.0
 whole_of (RanGenerated run bus written) (Ok _) asked program script input files files' out out' note note' came tells ready none quiet_files quiet_out quiet_note = absurd came
 whole_of (RanGenerated run bus written) (Err Failed) asked program script input files files' out out' note note' came tells ready none quiet_files quiet_out quiet_note = absurd came
+whole_of (RanTraced run bus written) (Ok _) asked program script input files files' out out' note note' came tells ready none quiet_files quiet_out quiet_note = absurd came
+whole_of (RanTraced run bus written) (Err Failed) asked program script input files files' out out' note note' came tells ready none quiet_files quiet_out quiet_note = absurd came
+whole_of (Judged difference written) (Ok _) asked program script input files files' out out' note note' came tells ready none quiet_files quiet_out quiet_note = absurd came
+whole_of (Judged difference written) (Err Failed) asked program script input files files' out out' note note' came tells ready none quiet_files quiet_out quiet_note = absurd came
 
 pub whole_run : {request : Result Asked WordsFault} {old new : World} {done : Done} → Outcome request old new done → (asked : RunAsked) (program : Program) (script : Option (List ScriptLine)) (input : List ℕ) →
     request ≡ Ok (to_run asked) → Ready (to_run asked) old.files program script input → Faultless (to_run asked) old new done → IsOneOf other_statuses done.status ⊎ RanWhole asked.execution program input done
@@ -247,6 +285,10 @@ whole_plain_of OtherTag (Ok _) execution program script input files files' out o
 whole_plain_of OtherTag (Err Failed) execution program script input files files' out out' note note' came tells ready quiet_files quiet_out quiet_note = absurd came.0
 whole_plain_of (RanGenerated run bus written) (Ok _) execution program script input files files' out out' note note' came tells ready quiet_files quiet_out quiet_note = absurd came
 whole_plain_of (RanGenerated run bus written) (Err Failed) execution program script input files files' out out' note note' came tells ready quiet_files quiet_out quiet_note = absurd came
+whole_plain_of (RanTraced run bus written) (Ok _) execution program script input files files' out out' note note' came tells ready quiet_files quiet_out quiet_note = absurd came
+whole_plain_of (RanTraced run bus written) (Err Failed) execution program script input files files' out out' note note' came tells ready quiet_files quiet_out quiet_note = absurd came
+whole_plain_of (Judged difference written) (Ok _) execution program script input files files' out out' note note' came tells ready quiet_files quiet_out quiet_note = absurd came
+whole_plain_of (Judged difference written) (Err Failed) execution program script input files files' out out' note note' came tells ready quiet_files quiet_out quiet_note = absurd came
 
 plain_whole : {request : Result Asked WordsFault} {old new : World} {done : Done} → Outcome request old new done → (execution : ExecutionAsked) (program : Program) (script : Option (List ScriptLine)) (input : List ℕ) →
     request ≡ Ok (to_run_plain execution) → Ready (to_run_plain execution) old.files program script input → Faultless (to_run_plain execution) old new done → IsOneOf (plain_statuses execution program input) done.status
@@ -278,6 +320,8 @@ whole_text_of (Written written) telling asked file text program script input fil
     written_whole written telling file text files files' out out' note note' writes tells quiet_out
 whole_text_of OtherTag telling asked file text program script input files files' out out' note note' came writes tells ready quiet_files quiet_out = absurd writes
 whole_text_of (RanGenerated run bus written) telling asked file text program script input files files' out out' note note' came writes tells ready quiet_files quiet_out = absurd writes
+whole_text_of (RanTraced run bus written) telling asked file text program script input files files' out out' note note' came writes tells ready quiet_files quiet_out = absurd writes
+whole_text_of (Judged difference written) telling asked file text program script input files files' out out' note note' came writes tells ready quiet_files quiet_out = absurd writes
 
 text_whole : {request : Result Asked WordsFault} {old new : World} {done : Done} → (o : Outcome request old new done) → (asked : Asked) (file : FileAsked) (text : Image → List ℕ) (program : Program) (script : Option (List ScriptLine)) (input : List ℕ) → request ≡ Ok asked →
     WritesOr o.course file text old.files new.files old.out new.out → Ready asked old.files program script input → Faultless asked old new done → IsOneOf text_statuses done.status
@@ -285,25 +329,6 @@ text_whole {request} {old} {new} {done} o asked file text program script input a
     subst (λ (n : ℕ). IsOneOf text_statuses n) (sym o.status)
     (whole_text_of o.course o.told asked file text program script input old.files new.files old.out new.out old.note new.note
     (came_as o (Ok asked) asks) writes o.tells ready sound.files sound.out)
-
--- ---- any request
-
-pub whole : {request : Result Asked WordsFault} {old new : World} {done : Done} → Outcome request old new done → (asked : Asked) (program : Program) (script : Option (List ScriptLine)) (input : List ℕ) →
-    request ≡ Ok asked → Ready asked old.files program script input → Faultless asked old new done → IsOneOf (whole_statuses asked program input) done.status
-whole {done = done} o (to_run asked) program script input asks ready sound =
-    run_whole asked.execution program input done (whole_run o asked program script input asks ready sound)
-whole o (to_run_plain execution) program script input asks ready sound = plain_whole o execution program script input asks ready sound
-whole {old = old} {new = new} o (to_assemble file) program script input asks ready sound =
-    let writes = asm_came o.course file old.files new.files old.out new.out (came_as o (Ok (to_assemble file)) asks) in
-    text_whole o (to_assemble file) file elf_file program script input asks writes ready sound
-whole {old = old} {new = new} o (to_disassemble file) program script input asks ready sound =
-    let writes = dis_came o.course file old.files new.files old.out new.out (came_as o (Ok (to_disassemble file)) asks) in
-    text_whole o (to_disassemble file) file listing program script input asks writes ready sound
-whole {old = old} {new = new} o (to_measure file) program script input asks ready sound =
-    let writes = measure_came o.course file old.files new.files old.out new.out (came_as o (Ok (to_measure file)) asks) in
-    text_whole o (to_measure file) file measurement_line program script input asks writes ready sound
-whole o (to_verify report) program script input asks ready sound = absurd ready.program_is
-whole o (to_bench number) program script input asks ready sound = absurd ready.program_is
 
 -- ---- a report
 
@@ -344,6 +369,8 @@ whole_report_of OtherTag (Ok _) asked text files files' out out' note note' came
 whole_report_of OtherTag (Err Failed) asked text files files' out out' note note' came tells told ready quiet_files quiet_out quiet_note = absurd (quiet_note tells.1)
 whole_report_of OtherTag (Err no_memory) asked text files files' out out' note note' came tells told ready quiet_files quiet_out quiet_note = lacking asked text
 whole_report_of (RanGenerated run bus written) telling asked text files files' out out' note note' came tells told ready quiet_files quiet_out quiet_note = absurd came
+whole_report_of (RanTraced run bus written) telling asked text files files' out out' note note' came tells told ready quiet_files quiet_out quiet_note = absurd came
+whole_report_of (Judged difference written) telling asked text files files' out out' note note' came tells told ready quiet_files quiet_out quiet_note = absurd came
 
 pub whole_report : {request : Result Asked WordsFault} {old new : World} {done : Done} → Outcome request old new done → (asked : ReportAsked) (text : List ℕ) → request ≡ Ok (to_verify asked) → Tell old.files →
     IsAccepted old.files (report_need asked) text → Faultless (to_verify asked) old new done → IsOneOf (checked_statuses asked text) done.status
@@ -353,6 +380,10 @@ whole_report {request} {old} {new} {done} o asked text asks tells ready sound =
     (came_as o (Ok (to_verify asked)) asks) o.tells tells ready sound.files sound.out sound.note)
 
 -- ---- a generated program
+
+-- nothing rises in a sink in memory
+none_risen : ¬ Rose 0 0
+none_risen risen = let r : 1 ≤ 0 = risen in omega arith
 
 -- it is the run over the whole budget, since no page is spent under the default limit
 generated_whole : (program : Program) (old new : SinkState) (before : BusHistory) (bus : RunBus) (run : RunRecord) → RunsProtected (terms_of generated_run program []) old new before (run_history bus) run → (run_history bus).lies ≡ 0 → ¬ Rose old.faults new.faults →
@@ -373,10 +404,9 @@ summary_whole : (number : ℕ) (program : Program) (run : RunRecord) (bus : RunB
 summary_whole number program run bus (Ok _) files files' out out' summarizes is none quiet =
     let e : Ok summarizes.runs.program ≡ Ok program = sym summarizes.runs.program_is ∙ is in
     let same : summarizes.runs.program ≡ program = cc in
-    let still : ¬ Rose 0 0 = λ risen. let r : 1 ≤ 0 = risen in omega arith in
     generated_whole program (gathered []) (gathered summarizes.printed) (new_history generated_execution.file.geometry) bus run
     (subst (λ (p : Program). RunsProtected (terms_of generated_run p []) (gathered []) (gathered summarizes.printed) (new_history generated_execution.file.geometry) (run_history bus) run) same summarizes.runs.runs)
-    none still
+    none none_risen
 summary_whole number program run bus (Err Failed) files files' out out' summarizes is none quiet = absurd (quiet summarizes.written.1)
 summary_whole number program run bus (Err no_memory) files files' out out' summarizes is none quiet = inl refl
 
@@ -391,9 +421,223 @@ whole_bench_of (Written written) telling number program files files' out out' no
 whole_bench_of OtherTag telling number program files files' out out' note note' came tells is none quiet = absurd came.0
 whole_bench_of (RanGenerated run bus written) telling number program files files' out out' note note' came tells is none quiet =
     rw tells.1 (summary_whole number program run bus written files files' out out' came is none quiet)
+whole_bench_of (RanTraced run bus written) telling number program files files' out out' note note' came tells is none quiet = absurd came
+whole_bench_of (Judged difference written) telling number program files files' out out' note note' came tells is none quiet = absurd came
 
 pub whole_bench : {request : Result Asked WordsFault} {old new : World} {done : Done} → Outcome request old new done → (number : ℕ) (program : Program) → request ≡ Ok (to_bench number) → workload_of number ≡ Ok program →
     Faultless (to_bench number) old new done → (done.status ≡ 10) ⊎ RanWhole generated_execution program [] done
 whole_bench {request} {old} {new} {done} o number program asks is sound =
     rw (o.run, o.bus, o.status) (whole_bench_of o.course o.told number program old.files new.files old.out new.out old.note new.note
     (came_as o (Ok (to_bench number)) asks) o.tells is (sym o.lies ∙ sound.bus) sound.out)
+
+-- ---- a trace
+
+-- reports tell any other ending
+told_some : (ending : Ending) → ending ≢ WriteFault → ending ≢ memory_ended → ending_and_code ending ≢ None
+told_some (Halted exit) written had none = cc
+told_some (Trapped cause pc) written had none = cc
+told_some OutOfSteps written had none = cc
+told_some (Tampered place) written had none = cc
+told_some (Spent page) written had none = cc
+told_some WriteFault written had none = written refl
+told_some memory_ended written had none = had refl
+
+has_trace : (terms : Terms) (run : RunRecord) (bus : RunBus) (printed : List ℕ) (trace : Option Trace) → IsTold terms run bus printed trace → ending_and_code run.ending ≢ None → IsSome trace
+has_trace terms run bus printed None told some = absurd (some told)
+has_trace terms run bus printed (Some trace) told some = refl
+
+-- a run that was not out of memory has a trace
+wrote_trace : (asked : RunAsked) (old new : World) (run : RunRecord) (bus : RunBus) → (traces : Traces asked old.files new.files old.out new.out run bus (Ok tt)) → (run_history bus).lies ≡ 0 →
+    (code_of (run_status run) ≡ 10) ⊎ WroteTrace asked old new run bus
+wrote_trace asked old new run bus traces none =
+    let runs = traces.traced.runs in
+    let ending_is = run_status_without_evidence run (honest_without_evidence runs none) in
+    elim (memory_cases run.ending) [
+      | inl gone ↦ inl (ending_is ∙ ap (λ e. code_of (ending_status e)) gone)
+      | inr had ↦ inr (record {
+        traces = traces;
+        there = has_trace (terms_of asked traces.program traces.input) run bus traces.traced.printed traces.trace traces.traced.told
+            (told_some run.ending (λ fault. none_risen (runs.sink.write_fault fault)) had);
+      })
+    ]
+
+-- it is that of a whole run, or of one that spent a page
+abbrev pub TracedWholeOr : RunAsked → Program → List ℕ → World → World → ℕ → RunRecord → RunBus → Type 0
+TracedWholeOr asked program input old new status run bus =
+    WroteTrace asked old new run bus × ((status ≡ 6) ⊎ IsRunWhole asked.execution program input status run bus)
+
+traced_or : (asked : RunAsked) (program : Program) (input : List ℕ) (old new : World) (status : ℕ) (run : RunRecord) (bus : RunBus) → (status ≡ 10) ⊎ WroteTrace asked old new run bus → WholeOr asked.execution program input status run bus →
+    (status ≡ 10) ⊎ TracedWholeOr asked program input old new status run bus
+traced_or asked program input old new status run bus (inl gone) ran = inl gone
+traced_or asked program input old new status run bus (inr wrote) (inl gone) = inl gone
+traced_or asked program input old new status run bus (inr wrote) (inr ran) = inr (wrote, ran)
+
+traced_ready : (asked : RunAsked) (program : Program) (script : Option (List ScriptLine)) (input : List ℕ) (old new : World) (run : RunRecord) (bus : RunBus) → Ready (to_trace asked) old.files program script input →
+    Traces asked old.files new.files old.out new.out run bus (Ok tt) → (run_history bus).lies ≡ 0 →
+    (code_of (run_status run) ≡ 10) ⊎ TracedWholeOr asked program input old new (code_of (run_status run)) run bus
+traced_ready asked program script input old new run bus ready traces none =
+    let same = same_program old.files asked.execution.file program traces.program ready.tells ready.program_is traces.reads.program_is in
+    let same_in = same_input asked.execution.input input traces.input old.files ready.tells ready.input_is traces.reads.input_is in
+    let history = new_history asked.execution.file.geometry in
+    let runs = subst (λ (p : Program). RunsProtected (terms_of asked p input) (gathered []) (gathered traces.traced.printed) history (run_history bus) run) same
+    (subst (λ (i : List ℕ). RunsProtected (terms_of asked traces.program i) (gathered []) (gathered traces.traced.printed) history (run_history bus) run) same_in traces.traced.runs) in
+    traced_or asked program input old new (code_of (run_status run)) run bus (wrote_trace asked old new run bus traces none)
+    (ran_whole_or asked program input (gathered []) (gathered traces.traced.printed) history bus run runs none none_risen)
+
+-- the trace's write did not fail
+traced_told : (asked : RunAsked) (program : Program) (script : Option (List ScriptLine)) (input : List ℕ) (old new : World) (run : RunRecord) (bus : RunBus) (written : Telling) → Ready (to_trace asked) old.files program script input →
+    Traces asked old.files new.files old.out new.out run bus written → (run_history bus).lies ≡ 0 → ¬ Rose old.out.faults new.out.faults →
+    (code_of (told_status run written) ≡ 10) ⊎ TracedWholeOr asked program input old new (code_of (told_status run written)) run bus
+traced_told asked program script input old new run bus (Ok _) ready traces none quiet = traced_ready asked program script input old new run bus ready traces none
+traced_told asked program script input old new run bus (Err Failed) ready traces none quiet = absurd (quiet traces.written.1)
+traced_told asked program script input old new run bus (Err no_memory) ready traces none quiet = inl refl
+
+whole_trace_of : (course : Course) (telling : Telling) (asked : RunAsked) (program : Program) (script : Option (List ScriptLine)) (input : List ℕ) (old new : World) → CameAbout course (Ok (to_trace asked)) old.files new.files old.out new.out →
+    TellsCourse course old.note new.note telling → Ready (to_trace asked) old.files program script input → lies_of (course_bus course) ≡ 0 → ¬ Rose old.files.faults new.files.faults → ¬ Rose old.out.faults new.out.faults → ¬ Rose old.note.faults new.note.faults →
+    (code_of (status_of course telling) ≡ 10) ⊎ AreBothAnd (course_run course) (course_bus course) (TracedWholeOr asked program input old new (code_of (status_of course telling)))
+whole_trace_of course (Err no_memory) asked program script input old new came tells ready none quiet_files quiet_out quiet_note = inl refl
+whole_trace_of (Refused refusal) (Ok _) asked program script input old new came tells ready none quiet_files quiet_out quiet_note =
+    absurd (unrefused refusal (to_trace asked) old.files new.files ready.tells (ready_accepted (to_trace asked) old.files program script input ready) quiet_files came.0)
+whole_trace_of (Refused refusal) (Err Failed) asked program script input old new came tells ready none quiet_files quiet_out quiet_note = absurd (quiet_note tells.1)
+whole_trace_of NoMemory (Ok _) asked program script input old new came tells ready none quiet_files quiet_out quiet_note = inl refl
+whole_trace_of NoMemory (Err Failed) asked program script input old new came tells ready none quiet_files quiet_out quiet_note = inl refl
+whole_trace_of (Ran run bus) (Ok _) asked program script input old new came tells ready none quiet_files quiet_out quiet_note = absurd came
+whole_trace_of (Ran run bus) (Err Failed) asked program script input old new came tells ready none quiet_files quiet_out quiet_note = absurd came
+whole_trace_of (RanPlain run) (Ok _) asked program script input old new came tells ready none quiet_files quiet_out quiet_note = absurd came
+whole_trace_of (RanPlain run) (Err Failed) asked program script input old new came tells ready none quiet_files quiet_out quiet_note = absurd came
+whole_trace_of (Written written) (Ok _) asked program script input old new came tells ready none quiet_files quiet_out quiet_note = absurd came
+whole_trace_of (Written written) (Err Failed) asked program script input old new came tells ready none quiet_files quiet_out quiet_note = absurd came
+whole_trace_of OtherTag (Ok _) asked program script input old new came tells ready none quiet_files quiet_out quiet_note = absurd came.0
+whole_trace_of OtherTag (Err Failed) asked program script input old new came tells ready none quiet_files quiet_out quiet_note = absurd came.0
+whole_trace_of (RanGenerated run bus written) (Ok _) asked program script input old new came tells ready none quiet_files quiet_out quiet_note = absurd came
+whole_trace_of (RanGenerated run bus written) (Err Failed) asked program script input old new came tells ready none quiet_files quiet_out quiet_note = absurd came
+whole_trace_of (RanTraced run bus written) (Ok _) asked program script input old new came tells ready none quiet_files quiet_out quiet_note =
+    traced_told asked program script input old new run bus written ready came none quiet_out
+whole_trace_of (RanTraced run bus written) (Err Failed) asked program script input old new came tells ready none quiet_files quiet_out quiet_note = absurd (quiet_note tells.1)
+whole_trace_of (Judged difference written) (Ok _) asked program script input old new came tells ready none quiet_files quiet_out quiet_note = absurd came
+whole_trace_of (Judged difference written) (Err Failed) asked program script input old new came tells ready none quiet_files quiet_out quiet_note = absurd came
+
+-- the run, the bus and the status are the answer's
+traced_answer : (asked : RunAsked) (program : Program) (input : List ℕ) (old new : World) (done : Done) (run : Option RunRecord) (bus : Option RunBus) (status : ℕ) → done.run ≡ run → done.bus ≡ bus → done.status ≡ status →
+    (status ≡ 10) ⊎ AreBothAnd run bus (TracedWholeOr asked program input old new status) → (done.status ≡ 10) ⊎ TracedWhole asked program input old new done
+traced_answer asked program input old new done run bus status run_is bus_is status_is (inl gone) = inl (status_is ∙ gone)
+traced_answer asked program input old new done None bus status run_is bus_is status_is (inr whole) = absurd whole
+traced_answer asked program input old new done (Some run) None status run_is bus_is status_is (inr whole) = absurd whole
+traced_answer asked program input old new done (Some run) (Some bus) status run_is bus_is status_is (inr whole) = inr (record {
+  wrote = rw (run_is, bus_is) whole.0;
+  ran = rw (run_is, bus_is, status_is) whole.1;
+})
+
+pub whole_trace : {request : Result Asked WordsFault} {old new : World} {done : Done} → Outcome request old new done → (asked : RunAsked) (program : Program) (script : Option (List ScriptLine)) (input : List ℕ) →
+    request ≡ Ok (to_trace asked) → Ready (to_trace asked) old.files program script input → Faultless (to_trace asked) old new done → (done.status ≡ 10) ⊎ TracedWhole asked program input old new done
+whole_trace {request} {old} {new} {done} o asked program script input asks ready sound =
+    traced_answer asked program input old new done (course_run o.course) (course_bus o.course) (code_of (status_of o.course o.told)) o.run o.bus o.status
+    (whole_trace_of o.course o.told asked program script input old new
+    (came_as o (Ok (to_trace asked)) asks) o.tells ready (sym o.lies ∙ sound.bus) sound.files sound.out sound.note)
+
+-- its status is among those that are due
+traced_due : (asked : RunAsked) (program : Program) (input : List ℕ) (old new : World) (done : Done) → (done.status ≡ 10) ⊎ TracedWhole asked program input old new done →
+    IsOneOf other_statuses done.status ⊎ RanWhole asked.execution program input done
+traced_due asked program input old new done (inl gone) = inl (other done.status gone)
+traced_due asked program input old new done (inr whole) = elim whole.ran [
+  | inl spent ↦ inl (used_up done.status spent)
+  | inr ran ↦ inr ran
+]
+
+-- ---- a judgement
+
+-- the verdict was written, and has this status
+abbrev pub VerdictWhole : JudgeAsked → Program → List ℕ → Trace → World → World → ℕ → Type 0
+VerdictWhole judge program input trace old new status =
+    (difference : Option Difference) × IsJudged (opening judge.execution.file.geometry program input) judge.execution.steps trace difference
+    × Gains old.out (verdict_line difference) new.out × (status ≡ code_of (found_status difference))
+
+-- it needs no script
+unscripted : (judge : JudgeAsked) (files : FilesState) (program : Program) (script : Option (List ScriptLine)) (input : List ℕ) → Ready (to_judge judge) files program script input → Ready (to_judge judge) files program None input
+unscripted judge files program script input ready = subst (λ (s : Option (List ScriptLine)). Ready (to_judge judge) files program s input) ready.script_is ready
+
+-- what was judged is what is ready
+judged_ready : (judge : JudgeAsked) (program : Program) (input : List ℕ) (trace : Trace) (old new : World) (difference : Option Difference) → Ready (to_judge judge) old.files program None input →
+    IsTraceFile old.files judge.execution.file.geometry judge.trace trace → Judges judge old.files new.files old.out new.out difference (Ok tt) →
+    IsJudged (opening judge.execution.file.geometry program input) judge.execution.steps trace difference
+judged_ready judge program input trace old new difference ready trace_is judges =
+    let same = same_program old.files judge.execution.file program judges.program ready.tells ready.program_is judges.reads.program_is in
+    let same_in = same_input judge.execution.input input judges.input old.files ready.tells ready.input_is judges.reads.input_is in
+    let same_file = same_trace old.files judge.execution.file.geometry judge.trace trace judges.trace ready.tells trace_is judges.reads.trace_is in
+    subst (λ (p : Program). IsJudged (opening judge.execution.file.geometry p input) judge.execution.steps trace difference) same
+    (subst (λ (i : List ℕ). IsJudged (opening judge.execution.file.geometry judges.program i) judge.execution.steps trace difference) same_in
+    (subst (λ (t : Trace). IsJudged (opening judge.execution.file.geometry judges.program judges.input) judge.execution.steps t difference) same_file judges.verdict))
+
+judged_told : (judge : JudgeAsked) (program : Program) (input : List ℕ) (trace : Trace) (old new : World) (difference : Option Difference) (written : Telling) → Ready (to_judge judge) old.files program None input →
+    IsTraceFile old.files judge.execution.file.geometry judge.trace trace → Judges judge old.files new.files old.out new.out difference written → ¬ Rose old.out.faults new.out.faults →
+    (code_of (judged_status difference written) ≡ 10) ⊎ VerdictWhole judge program input trace old new (code_of (judged_status difference written))
+judged_told judge program input trace old new difference (Ok _) ready trace_is judges quiet =
+    inr (difference, judged_ready judge program input trace old new difference ready trace_is judges, judges.written, refl)
+judged_told judge program input trace old new difference (Err Failed) ready trace_is judges quiet = absurd (quiet judges.written.1)
+judged_told judge program input trace old new difference (Err no_memory) ready trace_is judges quiet = inl refl
+
+whole_judgement_of : (course : Course) (telling : Telling) (judge : JudgeAsked) (program : Program) (input : List ℕ) (trace : Trace) (old new : World) → CameAbout course (Ok (to_judge judge)) old.files new.files old.out new.out →
+    TellsCourse course old.note new.note telling → Ready (to_judge judge) old.files program None input → IsTraceFile old.files judge.execution.file.geometry judge.trace trace → ¬ Rose old.files.faults new.files.faults → ¬ Rose old.out.faults new.out.faults →
+    (code_of (status_of course telling) ≡ 10) ⊎ VerdictWhole judge program input trace old new (code_of (status_of course telling))
+whole_judgement_of (Refused refusal) telling judge program input trace old new came tells ready trace_is quiet_files quiet_out =
+    absurd (unrefused refusal (to_judge judge) old.files new.files ready.tells (ready_accepted (to_judge judge) old.files program None input ready) quiet_files came.0)
+whole_judgement_of NoMemory telling judge program input trace old new came tells ready trace_is quiet_files quiet_out = rw tells.1 (inl refl)
+whole_judgement_of (Ran run bus) telling judge program input trace old new came tells ready trace_is quiet_files quiet_out = absurd came
+whole_judgement_of (RanPlain run) telling judge program input trace old new came tells ready trace_is quiet_files quiet_out = absurd came
+whole_judgement_of (Written written) telling judge program input trace old new came tells ready trace_is quiet_files quiet_out = absurd came
+whole_judgement_of OtherTag telling judge program input trace old new came tells ready trace_is quiet_files quiet_out = absurd came.0
+whole_judgement_of (RanGenerated run bus written) telling judge program input trace old new came tells ready trace_is quiet_files quiet_out = absurd came
+whole_judgement_of (RanTraced run bus written) telling judge program input trace old new came tells ready trace_is quiet_files quiet_out = absurd came
+whole_judgement_of (Judged difference written) telling judge program input trace old new came tells ready trace_is quiet_files quiet_out =
+    rw tells.1 (judged_told judge program input trace old new difference written ready trace_is came quiet_out)
+
+judged_answer : (judge : JudgeAsked) (program : Program) (input : List ℕ) (trace : Trace) (old new : World) (done : Done) (status : ℕ) → done.status ≡ status → (status ≡ 10) ⊎ VerdictWhole judge program input trace old new status →
+    (done.status ≡ 10) ⊎ JudgedWhole judge program input trace old new done
+judged_answer judge program input trace old new done status status_is (inl gone) = inl (status_is ∙ gone)
+judged_answer judge program input trace old new done status status_is (inr whole) =
+    inr (record { difference = whole.0; verdict = whole.1; written = whole.2; status_is = status_is ∙ whole.3 })
+
+pub whole_judgement : {request : Result Asked WordsFault} {old new : World} {done : Done} → Outcome request old new done → (judge : JudgeAsked) (program : Program) (input : List ℕ) (trace : Trace) →
+    request ≡ Ok (to_judge judge) → Ready (to_judge judge) old.files program None input → IsTraceFile old.files judge.execution.file.geometry judge.trace trace → Faultless (to_judge judge) old new done →
+    (done.status ≡ 10) ⊎ JudgedWhole judge program input trace old new done
+whole_judgement {request} {old} {new} {done} o judge program input trace asks ready trace_is sound =
+    judged_answer judge program input trace old new done (code_of (status_of o.course o.told)) o.status
+    (whole_judgement_of o.course o.told judge program input trace old new
+    (came_as o (Ok (to_judge judge)) asks) o.tells ready trace_is sound.files sound.out)
+
+-- its status is among those that are due
+abbrev pub judged_statuses : List Status
+judged_statuses = status.Done ∷ status.JudgedNo ∷ status.NoMemory ∷ []
+
+found_due : (difference : Option Difference) (number : ℕ) → number ≡ code_of (found_status difference) → IsOneOf judged_statuses number
+found_due None number is = (0, omega arith, sym is)
+found_due (Some difference) number is = (1, omega arith, sym is)
+
+judged_due : (judge : JudgeAsked) (program : Program) (input : List ℕ) (trace : Trace) (old new : World) (done : Done) → (done.status ≡ 10) ⊎ JudgedWhole judge program input trace old new done →
+    IsOneOf judged_statuses done.status
+judged_due judge program input trace old new done (inl gone) = (2, omega arith, sym gone)
+judged_due judge program input trace old new done (inr whole) = found_due whole.difference done.status whole.status_is
+
+-- ---- any request
+
+pub whole : {request : Result Asked WordsFault} {old new : World} {done : Done} → Outcome request old new done → (asked : Asked) (program : Program) (script : Option (List ScriptLine)) (input : List ℕ) →
+    request ≡ Ok asked → Ready asked old.files program script input → Faultless asked old new done → IsOneOf (whole_statuses asked program input) done.status
+whole {done = done} o (to_run asked) program script input asks ready sound =
+    run_whole asked.execution program input done (whole_run o asked program script input asks ready sound)
+whole o (to_run_plain execution) program script input asks ready sound = plain_whole o execution program script input asks ready sound
+whole {old = old} {new = new} o (to_assemble file) program script input asks ready sound =
+    let writes = asm_came o.course file old.files new.files old.out new.out (came_as o (Ok (to_assemble file)) asks) in
+    text_whole o (to_assemble file) file elf_file program script input asks writes ready sound
+whole {old = old} {new = new} o (to_disassemble file) program script input asks ready sound =
+    let writes = dis_came o.course file old.files new.files old.out new.out (came_as o (Ok (to_disassemble file)) asks) in
+    text_whole o (to_disassemble file) file listing program script input asks writes ready sound
+whole {old = old} {new = new} o (to_measure file) program script input asks ready sound =
+    let writes = measure_came o.course file old.files new.files old.out new.out (came_as o (Ok (to_measure file)) asks) in
+    text_whole o (to_measure file) file measurement_line program script input asks writes ready sound
+whole o (to_verify report) program script input asks ready sound = absurd ready.program_is
+whole o (to_bench number) program script input asks ready sound = absurd ready.program_is
+whole {old = old} {new = new} {done = done} o (to_trace asked) program script input asks ready sound =
+    run_whole asked.execution program input done (traced_due asked program input old new done (whole_trace o asked program script input asks ready sound))
+whole {old = old} {new = new} {done = done} o (to_judge judge) program script input asks ready sound =
+    judged_due judge program input ready.trace_is.0 old new done
+    (whole_judgement o judge program input ready.trace_is.0 asks (unscripted judge old.files program script input ready) ready.trace_is.1 sound)

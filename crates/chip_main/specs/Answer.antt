@@ -8,9 +8,10 @@ use Rattle.sec_base.specs.declared.ending.Ending.TheVariants.{Tampered, NoMemory
 use Rattle.sec_base.specs.declared.image.Image.{Image}
 use Rattle.sec_base.specs.declared.place.Place.{Place}
 use Rattle.bus_adversary.specs.ChangedPlaces.{script_may_change}
+use Rattle.bus_trace.specs.declared.verdict.Difference.{Difference}
 use Rattle.plain_machine.specs.declared.PlainRecord.{PlainRecord}
 use Rattle.chip_run.specs.declared.RunRecord.{RunRecord}
-use Rattle.chip_words.specs.Request.{Asked, ExecutionAsked, FileAsked, ReportAsked, RunAsked, WordsFault, to_run, to_run_plain, to_verify, to_bench}
+use Rattle.chip_words.specs.Request.{Asked, ExecutionAsked, FileAsked, JudgeAsked, ReportAsked, RunAsked, WordsFault, to_bench, to_judge, to_run, to_run_plain, to_trace, to_verify}
 use Rattle.chip_words.specs.Texts.{plain_text, record_text, tag_differs_line}
 use Rattle.chip_files.specs.declared.refusal.Refusal.{Refusal}
 use Rattle.chip_files.specs.Needs.{needs_of}
@@ -21,8 +22,8 @@ use Rattle.chip_device.specs.Generated.{generated_run}
 use Rattle.chip_main.specs.declared.Done.{Done}
 use Rattle.chip_main.specs.World.{World}
 use Rattle.chip_main.specs.Endings.{EndedWithoutEvidence, IsHalted}
-use Rattle.chip_main.specs.Requests.{ByCommand, FindsOtherTag, PlainlyRuns, RunsRequested, Summarizes, Writes, WritesReport, WritesRequest}
-use Rattle.chip_main.specs.Status.{IsOneOf, Telling, code_of, ending_status, refusal_status, run_status, text_status, told_status}
+use Rattle.chip_main.specs.Requests.{ByCommand, FindsOtherTag, Judges, JudgesRequest, PlainlyRuns, RunsRequested, Summarizes, Traces, Writes, WritesReport, WritesRequest}
+use Rattle.chip_main.specs.Status.{IsOneOf, Telling, code_of, ending_status, judged_status, refusal_status, run_status, text_status, told_status}
 use Rattle.chip_main.specs.declared.status.Status.{Status}
 use Rattle.chip_main.specs.declared.status.Status.TheVariants as status
 use Rattle.chip_main.specs.Texts.{refusal_text}
@@ -50,17 +51,24 @@ PlainlyEnded P execution old new =
 abbrev pub Ended : (Ending → Type 0) → Result Asked WordsFault → World → World → Done → Type 0
 Ended P request old new done = ByCommand request (λ _. IsRunAnd done (EndedWithoutEvidence P))
     (λ execution. PlainlyEnded P execution old new) (λ _ _. ⊥) (λ _. ⊥) (λ _. IsRunAnd done (EndedWithoutEvidence P))
+    (λ _. IsRunAnd done (EndedWithoutEvidence P)) (λ _. ⊥)
 
--- a run halted, or the request's text was written whole
+-- a run halted, or the request's text was written whole, or the request's trace follows, and that was written whole
 abbrev pub IsDone : Result Asked WordsFault → World → World → Done → Type 0
 IsDone request old new done = Ended IsHalted request old new done
     ⊎ WritesRequest request old.files new.files old.out new.out (Ok tt)
+    ⊎ JudgesRequest request old.files new.files old.out new.out None (Ok tt)
 
--- the request is for a run on protected memory, of a generated program too, and this holds of what it asks, of that run
--- and of its bus
+-- the request's trace differs first so, and that was written whole
+abbrev pub FoundNo : Result Asked WordsFault → World → World → Type 0
+FoundNo request old new =
+    (difference : Difference) × JudgesRequest request old.files new.files old.out new.out (Some difference) (Ok tt)
+
+-- the request is for a run on protected memory, of a generated program or for a trace too, and this holds of what it asks,
+-- of that run and of its bus
 abbrev pub RanAnd : (RunAsked → RunRecord → RunBus → Type 0) → Result Asked WordsFault → Done → Type 0
 RanAnd P request done = ByCommand request (λ asked. IsRunAnd done (P asked)) (λ _. ⊥) (λ _ _. ⊥) (λ _. ⊥)
-    (λ _. IsRunAnd done (P generated_run))
+    (λ _. IsRunAnd done (P generated_run)) (λ asked. IsRunAnd done (P asked)) (λ _. ⊥)
 
 -- one of the files was refused, for its length or its form
 abbrev pub FileRefused : Result Asked WordsFault → FilesState → FilesState → Type 0
@@ -92,6 +100,12 @@ TellsResult text whole number old new = (Gains old text new × (number ≡ code_
 abbrev pub TellsRun : ℕ → RunRecord → ℕ → SinkState → SinkState → Type 0
 TellsRun number run lies old new = TellsEnding
     (record_text run.ending run.retired lies run.made run.evidence run.report) (run_status run) run.ending number old new
+
+-- the record of a run whose trace was written so far was told, with so many lies
+abbrev pub TellsTraced : ℕ → RunRecord → Telling → ℕ → SinkState → SinkState → Type 0
+TellsTraced number run telling lies old new = TellsEnding
+    (record_text run.ending run.retired lies run.made run.evidence run.report) (told_status run telling) run.ending number
+    old new
 
 -- a plain run's record was written; a prefix of it where a write failed or out of memory
 abbrev pub TellsPlain : ℕ → PlainRecord → SinkState → SinkState → Type 0
@@ -173,6 +187,22 @@ pub record DeliversSummary (number : ℕ) (old new : World) (done : Done) (run :
   pub status_is : done.status ≡ code_of (told_status run telling)
   pub silent : IsSilent old.note new.note
 
+-- the request's program ran on protected memory, its trace was written as far as the status says, and its record was told
+pub record TracedAndTold (asked : RunAsked) (old new : World) (done : Done) (run : RunRecord) (bus : RunBus) : Type 0 where
+  pub telling : Telling
+  pub traces : Traces asked old.files new.files old.out new.out run bus telling
+  pub by_script : TampersByScript run bus
+  pub tells : TellsTraced done.status run telling done.lies old.note new.note
+
+-- the verdict on the request's trace was written as far as the status says, and nothing is told of that
+pub record DeliversVerdict (judge : JudgeAsked) (old new : World) (done : Done) : Type 0 where
+  pub difference : Option Difference
+  pub telling : Telling
+  pub judges : Judges judge old.files new.files old.out new.out difference telling
+  pub status_is : done.status ≡ code_of (judged_status difference telling)
+  pub no_run : done.run ≡ None
+  pub silent : IsSilent old.note new.note
+
 -- what each command gives, or nothing was done
 abbrev pub GivesRun : RunAsked → World → World → Done → Type 0
 GivesRun asked old new done =
@@ -196,3 +226,13 @@ GivesReport asked old new done = DeliversReport asked old new done ⊎ TellsOthe
 abbrev pub GivesSummary : ℕ → World → World → Done → Type 0
 GivesSummary number old new done =
     IsRunAnd done (DeliversSummary number old new done) ⊎ Undone (Ok (to_bench number)) old new done
+
+-- the program ran on protected memory and its trace was written, where it has one, or nothing was done
+abbrev pub GivesTraced : RunAsked → World → World → Done → Type 0
+GivesTraced asked old new done =
+    IsRunAnd done (TracedAndTold asked old new done) ⊎ Undone (Ok (to_trace asked)) old new done
+
+-- the trace was judged and the verdict was written, or nothing was done
+abbrev pub GivesVerdict : JudgeAsked → World → World → Done → Type 0
+GivesVerdict judge old new done =
+    DeliversVerdict judge old new done ⊎ Undone (Ok (to_judge judge)) old new done

@@ -1,13 +1,14 @@
 -- What a call owes, whatever it came to.
-use Rattle.std.specs.Prelude.{◌≡◌, ◌⊎◌, ◌∷◌, ◌++◌, [], List, ℕ, Option, Result, Ok, Err, IsErr}
+use Rattle.std.specs.Prelude.{◌≡◌, ◌⊎◌, ◌∷◌, ◌++◌, [], List, ℕ, Option, None, Result, Ok, Err, IsErr}
 use Rattle.sec_base.specs.Count.{Rose}
 use Rattle.adversary_script.specs.declared.script.ScriptLine.{ScriptLine}
 use Rattle.sec_base.specs.Program.{Program}
-use Rattle.chip_words.specs.Request.{Asked, ExecutionAsked, FileAsked, ReportAsked, RunAsked, WordsFault, to_assemble, to_disassemble, to_measure, to_run, to_run_plain, to_verify, to_bench}
+use Rattle.bus_trace.specs.declared.trace.Trace.{Trace}
+use Rattle.chip_words.specs.Request.{Asked, ExecutionAsked, FileAsked, JudgeAsked, ReportAsked, RunAsked, WordsFault, to_assemble, to_bench, to_disassemble, to_judge, to_measure, to_run, to_run_plain, to_trace, to_verify}
 use Rattle.workload_gen.specs.Workload.{workload_of}
 use Rattle.chip_files.specs.Needs.{Need, HasTold, IsAccepted, IsUnfit, needs_of, report_need}
 use Rattle.chip_files.specs.Causes.{AsksNothing, Stops}
-use Rattle.chip_files.specs.Taken.{Tell}
+use Rattle.chip_files.specs.Taken.{IsTraceFile, Tell}
 use Rattle.chip_files.specs.Verdict.{verdict_of}
 use Rattle.chip_files.specs.declared.refusal.Refusal.TheVariants.{Unread}
 use Rattle.chip_device.specs.Generated.{generated_execution}
@@ -16,12 +17,12 @@ use Rattle.chip_main.specs.Requests.{OtherTagRequest}
 use Rattle.chip_main.specs.Endings.{IsTrapped, IsOutOfSteps, EndedTampered, EndedSpent, EndedWithEvidence}
 use Rattle.chip_main.specs.Texts.{elf_file, listing, measurement_line}
 use Rattle.chip_main.specs.Status.{IsOneOf, IsResult, IsStatus, code_of}
-use Rattle.chip_main.specs.Answer.{Ended, FileRefused, GivesPlainRun, GivesReport, GivesRun, GivesSummary, GivesText, IsDone, RanAnd, Undone}
-use Rattle.chip_main.specs.Whole.{Faultless, RanWhole, Ready, verdict_status, whole_statuses}
+use Rattle.chip_main.specs.Answer.{Ended, FileRefused, FoundNo, GivesPlainRun, GivesReport, GivesRun, GivesSummary, GivesText, GivesTraced, GivesVerdict, IsDone, RanAnd, Undone}
+use Rattle.chip_main.specs.Whole.{Faultless, JudgedWhole, RanWhole, Ready, TracedWhole, verdict_status, whole_statuses}
 use Rattle.chip_main.specs.declared.Done.{Done}
 use Rattle.chip_main.specs.declared.status.Status.TheVariants as status
 
--- What each status says. WriteFault and NoMemory come of all seven commands, Refused and ReadFault of the six that read
+-- What each status says. WriteFault and NoMemory come of all nine commands, Refused and ReadFault of the eight that read
 -- files.
 pub record SaysStatus (request : Result Asked WordsFault) (old new : World) (answer : Done) : Type 0 where
   pub statuses : IsStatus answer.status
@@ -34,6 +35,7 @@ pub record SaysStatus (request : Result Asked WordsFault) (old new : World) (ans
   pub spent : answer.status ≡ code_of status.Spent → RanAnd EndedSpent request answer
   pub evidence : answer.status ≡ code_of status.Evidence → RanAnd EndedWithEvidence request answer
   pub tag_differs : answer.status ≡ code_of status.TagDiffers → OtherTagRequest request old.files new.files
+  pub judged_no : answer.status ≡ code_of status.JudgedNo → FoundNo request old new
   pub read_fault : answer.status ≡ code_of status.ReadFault → Stops Unread (needs_of request) old.files new.files
   pub write_fault : answer.status ≡ code_of status.WriteFault →
       Rose old.out.faults new.out.faults ⊎ Rose old.note.faults new.note.faults
@@ -47,8 +49,9 @@ pub record SaysStatus (request : Result Asked WordsFault) (old new : World) (ans
 -- evidence is of the first false answer. A run on the plain machine follows it; or the request's ELF file, listing or
 -- measurement is written. What a report says is written where the device of the request's key made it, and else it is
 -- told that its tag differs. A generated program runs as a requested one does, over an honest bus, and its summary is
--- written. Or nothing was done, since there was a refusal or no memory. Words that are no request, or have a value that
--- doesn't have its form, are refused, and nothing is asked of the files.
+-- written. For a trace a program runs as it does for a run, its trace is written where the run has one, and its record is
+-- told; of a trace that is judged the verdict is written. Or nothing was done, since there was a refusal or no memory.
+-- Words that are no request, or have a value that doesn't have its form, are refused, and nothing is asked of the files.
 pub record GivesAsked (request : Result Asked WordsFault) (old new : World) (answer : Done) : Type 0 where
   pub none : (fault : WordsFault) → request ≡ Err fault →
       AsksNothing old.files new.files × Undone (Err fault) old new answer
@@ -63,6 +66,8 @@ pub record GivesAsked (request : Result Asked WordsFault) (old new : World) (ans
       GivesText (to_measure file) file measurement_line old new answer
   pub verify : (asked : ReportAsked) → request ≡ Ok (to_verify asked) → GivesReport asked old new answer
   pub bench : (number : ℕ) → request ≡ Ok (to_bench number) → GivesSummary number old new answer
+  pub trace : (asked : RunAsked) → request ≡ Ok (to_trace asked) → GivesTraced asked old new answer
+  pub judge : (asked : JudgeAsked) → request ≡ Ok (to_judge asked) → GivesVerdict asked old new answer
 
 -- What is due by what the files tell.
 pub record GivesDue (request : Result Asked WordsFault) (old new : World) (answer : Done) : Type 0 where
@@ -86,3 +91,12 @@ pub record GivesDue (request : Result Asked WordsFault) (old new : World) (answe
   pub whole_bench : (number : ℕ) (program : Program) → request ≡ Ok (to_bench number) →
       workload_of number ≡ Ok program → Faultless (to_bench number) old new answer →
       (answer.status ≡ code_of status.NoMemory) ⊎ RanWhole generated_execution program [] answer
+  -- for a trace a program runs as it does for a run, and its trace is written whole
+  pub whole_trace : (asked : RunAsked) (program : Program) (script : Option (List ScriptLine)) (input : List ℕ) →
+      request ≡ Ok (to_trace asked) → Ready (to_trace asked) old.files program script input → Faultless (to_trace asked) old new answer →
+      (answer.status ≡ code_of status.NoMemory) ⊎ TracedWhole asked program input old new answer
+  -- a trace has the verdict on it, which is written whole
+  pub whole_judgement : (asked : JudgeAsked) (program : Program) (input : List ℕ) (trace : Trace) →
+      request ≡ Ok (to_judge asked) → Ready (to_judge asked) old.files program None input →
+      IsTraceFile old.files asked.execution.file.geometry asked.trace trace → Faultless (to_judge asked) old new answer →
+      (answer.status ≡ code_of status.NoMemory) ⊎ JudgedWhole asked program input trace old new answer

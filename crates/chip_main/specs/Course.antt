@@ -14,11 +14,11 @@ use Rattle.chip_device.specs.declared.run_bus.RunBus.{RunBus}
 use Rattle.chip_device.specs.Buses.{LiesByScript, run_history, lies_of}
 use Rattle.chip_main.specs.declared.Done.{Done}
 use Rattle.chip_main.specs.declared.course.Course.{Course}
-use Rattle.chip_main.specs.declared.course.Course.TheVariants.{Refused, NoMemory, Ran, RanPlain, Written, OtherTag, RanGenerated}
+use Rattle.chip_main.specs.declared.course.Course.TheVariants.{Refused, NoMemory, Ran, RanPlain, Written, OtherTag, RanGenerated, RanTraced, Judged}
 use Rattle.chip_main.specs.World.{World}
-use Rattle.chip_main.specs.Requests.{OtherTagRequest, PlainlyRunsRequest, RunsRequest, SummarizesRequest, WritesRequest}
+use Rattle.chip_main.specs.Requests.{JudgesRequest, OtherTagRequest, PlainlyRunsRequest, RunsRequest, SummarizesRequest, TracesRequest, WritesRequest}
 use Rattle.chip_main.specs.Texts.{refusal_text}
-use Rattle.chip_main.specs.Status.{IsResult, Telling, code_of, ending_status, refusal_status, run_status, text_status, told_status, untold_ending_status}
+use Rattle.chip_main.specs.Status.{IsResult, Telling, code_of, ending_status, judged_status, refusal_status, run_status, text_status, told_status, untold_ending_status, untold_told_status}
 use Rattle.chip_main.specs.declared.status.Status.{Status}
 use Rattle.chip_main.specs.declared.status.Status.TheVariants.{NoMemory as out_of_memory, TagDiffers, WriteFault}
 
@@ -32,6 +32,8 @@ CameAbout (Written telling) request files files' out out' = WritesRequest reques
 CameAbout OtherTag request files files' out out' = OtherTagRequest request files files' × IsSilent out out'
 CameAbout (RanGenerated run bus telling) request files files' out out' =
     SummarizesRequest request files files' out out' run bus telling
+CameAbout (RanTraced run bus telling) request files files' out out' = TracesRequest request files files' out out' run bus telling
+CameAbout (Judged difference telling) request files files' out out' = JudgesRequest request files files' out out' difference telling
 
 -- what a call comes to where a stop ended it
 abbrev pub stopped_course : Stop → Course
@@ -52,6 +54,9 @@ TellsCourse (RanPlain run) old new telling = IsWritten (plain_text run.ending ru
 TellsCourse (Written written) old new telling = TellsNothing old new telling
 TellsCourse OtherTag old new telling = IsWritten tag_differs_line old new telling
 TellsCourse (RanGenerated run bus written) old new telling = TellsNothing old new telling
+TellsCourse (RanTraced run bus written) old new telling =
+    IsWritten (record_text run.ending run.retired (run_history bus).lies run.made run.evidence run.report) old new telling
+TellsCourse (Judged difference written) old new telling = TellsNothing old new telling
 
 -- the record of a run on protected memory and its bus, where there was one
 abbrev pub course_run : Course → Option RunRecord
@@ -62,6 +67,8 @@ course_run (RanPlain run) = None
 course_run (Written telling) = None
 course_run OtherTag = None
 course_run (RanGenerated run bus telling) = Some run
+course_run (RanTraced run bus telling) = Some run
+course_run (Judged difference telling) = None
 
 -- the bus of a run on protected memory, where there was one
 abbrev pub course_bus : Course → Option RunBus
@@ -72,6 +79,8 @@ course_bus (RanPlain run) = None
 course_bus (Written telling) = None
 course_bus OtherTag = None
 course_bus (RanGenerated run bus telling) = Some bus
+course_bus (RanTraced run bus telling) = Some bus
+course_bus (Judged difference telling) = None
 
 -- the status, where it was told whole
 abbrev pub course_status : Course → Status
@@ -82,6 +91,8 @@ course_status (RanPlain run) = ending_status run.ending
 course_status (Written telling) = text_status telling
 course_status OtherTag = TagDiffers
 course_status (RanGenerated run bus telling) = told_status run telling
+course_status (RanTraced run bus telling) = told_status run telling
+course_status (Judged difference telling) = judged_status difference telling
 
 -- a refusal that could not be told keeps its status
 abbrev pub untold_status : Course → Status
@@ -92,6 +103,8 @@ untold_status (RanPlain run) = untold_ending_status run.ending
 untold_status (Written telling) = text_status telling
 untold_status OtherTag = WriteFault
 untold_status (RanGenerated run bus telling) = told_status run telling
+untold_status (RanTraced run bus telling) = untold_told_status run telling
+untold_status (Judged difference telling) = judged_status difference telling
 
 -- the status of the process
 abbrev pub status_of : Course → Telling → Status

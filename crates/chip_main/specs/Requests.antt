@@ -8,35 +8,42 @@ use Rattle.sec_base.specs.Sink.{SinkState, IsWritten}
 use Rattle.sec_base.specs.declared.image.Image.{Image}
 use Rattle.attest_report.specs.declared.report.Signed.{Signed}
 use Rattle.bus_model.specs.BusHistory.{new_history}
+use Rattle.bus_trace.specs.declared.trace.Trace.{Trace}
+use Rattle.bus_trace.specs.declared.verdict.Difference.{Difference}
 use Rattle.plain_machine.specs.declared.PlainRecord.{PlainRecord}
 use Rattle.chip_run.specs.Run.{RunsProtected}
 use Rattle.chip_run.specs.declared.RunRecord.{RunRecord}
-use Rattle.chip_words.specs.Request.{Asked, ExecutionAsked, FileAsked, ReportAsked, RunAsked, WordsFault, to_assemble, to_disassemble, to_measure, to_run, to_run_plain, to_verify, to_bench}
+use Rattle.chip_words.specs.Request.{Asked, ExecutionAsked, FileAsked, JudgeAsked, ReportAsked, RunAsked, WordsFault, to_assemble, to_bench, to_disassemble, to_judge, to_measure, to_run, to_run_plain, to_trace, to_verify}
 use Rattle.chip_words.specs.Texts.{report_text, summary_text}
 use Rattle.chip_files.specs.Causes.{AsksNothing}
-use Rattle.chip_files.specs.Taken.{ReadsExecution, ReadsProgram, ReadsReport, ReadsRun}
+use Rattle.chip_files.specs.Taken.{ReadsExecution, ReadsJudged, ReadsProgram, ReadsReport, ReadsRun}
 use Rattle.chip_files.specs.Verdict.{HasOtherTag, IsMadeBy}
 use Rattle.chip_device.specs.declared.run_bus.RunBus.{RunBus}
 use Rattle.chip_device.specs.Buses.{IsBusOf, WentOver, run_history}
 use Rattle.chip_device.specs.Device.{opening, terms_of}
 use Rattle.chip_device.specs.Generated.{RunsGenerated}
+use Rattle.chip_device.specs.Judged.{IsJudged}
+use Rattle.chip_device.specs.Traced.{RunsTraced}
 use Rattle.plain_machine.specs.PlainRun.{RunsPlain}
 use Rattle.chip_main.specs.Status.{Telling}
-use Rattle.chip_main.specs.Texts.{elf_file, listing, measurement_line}
+use Rattle.chip_main.specs.Texts.{elf_file, listing, measurement_line, trace_file, verdict_line}
 
 -- One statement for each kind of request: for a run on protected memory, for one on the plain machine, for a text of a
--- file's program, for the check of a report, and for the run of a generated program. No statement holds where the words
--- are no request.
+-- file's program, for the check of a report, for the run of a generated program, for a run's trace, and for the judgement
+-- of a trace. No statement holds where the words are no request.
 abbrev pub ByCommand : Result Asked WordsFault → (RunAsked → Type 0) → (ExecutionAsked → Type 0)
-    → (FileAsked → (Image → List ℕ) → Type 0) → (ReportAsked → Type 0) → (ℕ → Type 0) → Type 0
-ByCommand (Err fault) run plain writes verify bench = ⊥
-ByCommand (Ok (to_run asked)) run plain writes verify bench = run asked
-ByCommand (Ok (to_run_plain execution)) run plain writes verify bench = plain execution
-ByCommand (Ok (to_assemble file)) run plain writes verify bench = writes file elf_file
-ByCommand (Ok (to_disassemble file)) run plain writes verify bench = writes file listing
-ByCommand (Ok (to_measure file)) run plain writes verify bench = writes file measurement_line
-ByCommand (Ok (to_verify report)) run plain writes verify bench = verify report
-ByCommand (Ok (to_bench number)) run plain writes verify bench = bench number
+    → (FileAsked → (Image → List ℕ) → Type 0) → (ReportAsked → Type 0) → (ℕ → Type 0)
+    → (RunAsked → Type 0) → (JudgeAsked → Type 0) → Type 0
+ByCommand (Err fault) run plain writes verify bench trace judge = ⊥
+ByCommand (Ok (to_run asked)) run plain writes verify bench trace judge = run asked
+ByCommand (Ok (to_run_plain execution)) run plain writes verify bench trace judge = plain execution
+ByCommand (Ok (to_assemble file)) run plain writes verify bench trace judge = writes file elf_file
+ByCommand (Ok (to_disassemble file)) run plain writes verify bench trace judge = writes file listing
+ByCommand (Ok (to_measure file)) run plain writes verify bench trace judge = writes file measurement_line
+ByCommand (Ok (to_verify report)) run plain writes verify bench trace judge = verify report
+ByCommand (Ok (to_bench number)) run plain writes verify bench trace judge = bench number
+ByCommand (Ok (to_trace asked)) run plain writes verify bench trace judge = trace asked
+ByCommand (Ok (to_judge asked)) run plain writes verify bench trace judge = judge asked
 
 -- the run's program and input are those that the request names, and its terms are the request's; its bus was new, and
 -- is that of just the script that the request names, or honest where it names none; the writes of its bus are its messages,
@@ -88,30 +95,65 @@ pub record Summarizes (number : ℕ) (files files' : FilesState) (out out' : Sin
   pub runs : RunsGenerated number printed run bus
   pub written : IsWritten (summary_text number run.ending run.retired printed) out out' telling
 
--- the request is for a run on protected memory, for one on the plain machine, for a text, for the check of a report or
--- for the run of a generated program; and that was done
+-- the run's program, script and input are those that the request names, and its terms are the request's; its bus was new
+-- and follows just that script; and its trace, where it has one, was written, as far as the answer says
+pub record Traces (asked : RunAsked) (files files' : FilesState) (out out' : SinkState) (run : RunRecord) (bus : RunBus) (telling : Telling)
+    : Type 0 where
+  pub program : Program
+  pub script : Option (List ScriptLine)
+  pub input : List ℕ
+  pub reads : ReadsRun asked files files' program script input
+  pub bus_is : IsBusOf script bus
+  pub trace : Option Trace
+  pub traced : RunsTraced (terms_of asked program input) run bus trace
+  pub written : IsWritten (trace_file trace) out out' telling
+
+-- the program, the input and the trace are those that the request names, and the verdict on that trace was written, as far
+-- as the answer says
+pub record Judges (judge : JudgeAsked) (files files' : FilesState) (out out' : SinkState) (difference : Option Difference) (telling : Telling)
+    : Type 0 where
+  pub program : Program
+  pub input : List ℕ
+  pub trace : Trace
+  pub reads : ReadsJudged judge files files' program input trace
+  pub verdict : IsJudged (opening judge.execution.file.geometry program input) judge.execution.steps trace difference
+  pub written : IsWritten (verdict_line difference) out out' telling
+
+-- the request is for a run on protected memory, and that was done
 abbrev pub RunsRequest : Result Asked WordsFault → FilesState → FilesState → SinkState → SinkState → RunRecord → RunBus → Type 0
 RunsRequest request files files' out out' run bus =
     ByCommand request (λ asked. RunsRequested asked files files' out out' run bus) (λ _. ⊥) (λ _ _. ⊥) (λ _. ⊥) (λ _. ⊥)
+    (λ _. ⊥) (λ _. ⊥)
 
 -- the request is for a run on the plain machine, and it ran
 abbrev pub PlainlyRunsRequest : Result Asked WordsFault → FilesState → FilesState → SinkState → SinkState → PlainRecord → Type 0
 PlainlyRunsRequest request files files' out out' run =
     ByCommand request (λ _. ⊥) (λ execution. PlainlyRuns execution files files' out out' run) (λ _ _. ⊥) (λ _. ⊥)
-    (λ _. ⊥)
+    (λ _. ⊥) (λ _. ⊥) (λ _. ⊥)
 
 -- the request is for a text or a report's check; a text was written as far as the answer says
 abbrev pub WritesRequest : Result Asked WordsFault → FilesState → FilesState → SinkState → SinkState → Telling → Type 0
 WritesRequest request files files' out out' telling = ByCommand request (λ _. ⊥) (λ _. ⊥)
     (λ file text. Writes file text files files' out out' telling)
-    (λ asked. WritesReport asked files files' out out' telling) (λ _. ⊥)
+    (λ asked. WritesReport asked files files' out out' telling) (λ _. ⊥) (λ _. ⊥) (λ _. ⊥)
 
 -- the request is for the check of a report, and the tag of the report differs
 abbrev pub OtherTagRequest : Result Asked WordsFault → FilesState → FilesState → Type 0
 OtherTagRequest request files files' =
-    ByCommand request (λ _. ⊥) (λ _. ⊥) (λ _ _. ⊥) (λ asked. FindsOtherTag asked files files') (λ _. ⊥)
+    ByCommand request (λ _. ⊥) (λ _. ⊥) (λ _ _. ⊥) (λ asked. FindsOtherTag asked files files') (λ _. ⊥) (λ _. ⊥) (λ _. ⊥)
 
 -- the request is for a generated program; its summary was written as far as the answer says
 abbrev pub SummarizesRequest : Result Asked WordsFault → FilesState → FilesState → SinkState → SinkState → RunRecord → RunBus → Telling → Type 0
 SummarizesRequest request files files' out out' run bus telling = ByCommand request (λ _. ⊥) (λ _. ⊥) (λ _ _. ⊥) (λ _. ⊥)
-    (λ number. Summarizes number files files' out out' run bus telling)
+    (λ number. Summarizes number files files' out out' run bus telling) (λ _. ⊥) (λ _. ⊥)
+
+-- the request is for a run's trace, which was written as far as the answer says
+abbrev pub TracesRequest : Result Asked WordsFault → FilesState → FilesState → SinkState → SinkState → RunRecord → RunBus → Telling → Type 0
+TracesRequest request files files' out out' run bus telling = ByCommand request (λ _. ⊥) (λ _. ⊥) (λ _ _. ⊥) (λ _. ⊥) (λ _. ⊥)
+    (λ asked. Traces asked files files' out out' run bus telling) (λ _. ⊥)
+
+-- the request is for the judgement of a trace; the verdict, with its difference where it has one, was written as far as the
+-- answer says
+abbrev pub JudgesRequest : Result Asked WordsFault → FilesState → FilesState → SinkState → SinkState → Option Difference → Telling → Type 0
+JudgesRequest request files files' out out' difference telling = ByCommand request (λ _. ⊥) (λ _. ⊥) (λ _ _. ⊥) (λ _. ⊥) (λ _. ⊥)
+    (λ _. ⊥) (λ judge. Judges judge files files' out out' difference telling)

@@ -5,11 +5,12 @@ use Rattle.sec_base.specs.declared.ending.Ending.{Ending}
 use Rattle.sec_base.specs.declared.ending.Ending.TheVariants as ending
 use Rattle.sec_base.specs.declared.sink.SinkStop.{SinkStop}
 use Rattle.sec_base.specs.declared.sink.SinkStop.TheVariants as sink
+use Rattle.bus_trace.specs.declared.verdict.Difference.{Difference}
 use Rattle.chip_run.specs.declared.RunRecord.{RunRecord}
 use Rattle.chip_files.specs.declared.refusal.Refusal.{Refusal}
 use Rattle.chip_files.specs.declared.refusal.Refusal.TheVariants as refusal
 use Rattle.chip_main.specs.declared.status.Status.{Status}
-use Rattle.chip_main.specs.declared.status.Status.TheVariants.{Done, Trapped, Usage, Refused, OutOfSteps, Tampered, Spent, Evidence as evidence, ReadFault, WriteFault, NoMemory, TagDiffers}
+use Rattle.chip_main.specs.declared.status.Status.TheVariants.{Done, Trapped, Usage, Refused, OutOfSteps, Tampered, Spent, Evidence as evidence, ReadFault, WriteFault, NoMemory, TagDiffers, JudgedNo}
 
 -- its number
 abbrev pub code_of : Status → ℕ
@@ -25,6 +26,7 @@ code_of ReadFault = 8
 code_of WriteFault = 9
 code_of NoMemory = 10
 code_of TagDiffers = 11
+code_of JudgedNo = 13
 
 -- the number is one of a status
 abbrev pub IsStatus : ℕ → Type 0
@@ -79,6 +81,7 @@ refusal_status (refusal.Elf fault) = Refused
 refusal_status (refusal.Asm line fault) = Refused
 refusal_status (refusal.Script line fault) = Refused
 refusal_status (refusal.Report fault) = Refused
+refusal_status (refusal.Trace fault) = Refused
 
 -- the answer of a call that writes a text
 abbrev pub Telling : Type 0
@@ -90,8 +93,25 @@ told_status run (Ok _) = run_status run
 told_status run (Err sink.Failed) = untold_ending_status run.ending
 told_status run (Err sink.NoMemory) = NoMemory
 
+-- of a run whose record could not be told, and of which something else was written so far
+abbrev pub untold_told_status : RunRecord → Telling → Status
+untold_told_status run (Ok _) = untold_ending_status run.ending
+untold_told_status run (Err sink.Failed) = untold_ending_status run.ending
+untold_told_status run (Err sink.NoMemory) = NoMemory
+
 -- of a command that is only for a text on `out`
 abbrev pub text_status : Telling → Status
 text_status (Ok _) = Done
 text_status (Err sink.Failed) = WriteFault
 text_status (Err sink.NoMemory) = NoMemory
+
+-- the status of what a judge found, where that was written
+abbrev pub found_status : Option Difference → Status
+found_status None = Done
+found_status (Some difference) = JudgedNo
+
+-- of a judgement, as far as its line was written
+abbrev pub judged_status : Option Difference → Telling → Status
+judged_status difference (Ok _) = found_status difference
+judged_status difference (Err sink.Failed) = WriteFault
+judged_status difference (Err sink.NoMemory) = NoMemory

@@ -1,23 +1,30 @@
 -- What is due where nothing fails.
-use Rattle.std.specs.Prelude.{◌≡◌, List, [], ◌∷◌, ℕ, Option, Some, None}
+use Rattle.std.specs.Prelude.{◌≡◌, ◌⊎◌, List, [], ◌∷◌, ℕ, Option, Some, None, IsSome, Ok}
 use Rattle.adversary_script.specs.declared.script.ScriptLine.{ScriptLine}
 use Rattle.attest_report.specs.declared.refusal.ReportError.{ReportError}
 use Rattle.attest_report.specs.declared.refusal.ReportError.TheVariants.{Length, Digit, Version, Tag}
 use Rattle.sec_base.specs.Count.{Rose}
 use Rattle.sec_base.specs.Files.{FilesState}
-use Rattle.sec_base.specs.Sink.{SinkState}
+use Rattle.sec_base.specs.Sink.{Gains, SinkState}
+use Rattle.bus_trace.specs.declared.trace.Trace.{Trace}
+use Rattle.bus_trace.specs.declared.verdict.Difference.{Difference}
+use Rattle.chip_run.specs.declared.RunRecord.{RunRecord}
 use Rattle.rv32_core.specs.Machine.{plain}
 use Rattle.rv32_core.specs.Follows.{IsWhole, ending_at}
-use Rattle.chip_words.specs.Request.{Asked, ExecutionAsked, FileAsked, asked_program, to_assemble, to_disassemble, to_measure, to_run, to_run_plain, to_verify, to_bench}
+use Rattle.chip_words.specs.Request.{Asked, ExecutionAsked, FileAsked, JudgeAsked, RunAsked, asked_program, to_assemble, to_bench, to_disassemble, to_judge, to_measure, to_run, to_run_plain, to_trace, to_verify}
 use Rattle.chip_main.specs.declared.Done.{Done}
 use Rattle.chip_main.specs.World.{World}
 use Rattle.sec_base.specs.Program.{Program}
-use Rattle.chip_files.specs.Taken.{IsInput, IsProgram, IsScript, Tell}
+use Rattle.chip_files.specs.Taken.{IsInput, IsProgram, IsScript, IsTraceFile, Tell}
+use Rattle.chip_device.specs.declared.run_bus.RunBus.{RunBus}
 use Rattle.chip_device.specs.Device.{opening}
+use Rattle.chip_device.specs.Judged.{IsJudged}
 use Rattle.chip_main.specs.Answer.{IsRunAnd}
-use Rattle.chip_main.specs.Status.{code_of, ending_status}
+use Rattle.chip_main.specs.Requests.{Traces}
+use Rattle.chip_main.specs.Status.{code_of, ending_status, found_status}
+use Rattle.chip_main.specs.Texts.{verdict_line}
 use Rattle.chip_main.specs.declared.status.Status.{Status}
-use Rattle.chip_main.specs.declared.status.Status.TheVariants.{Done as done_status, Refused, Spent, NoMemory, TagDiffers}
+use Rattle.chip_main.specs.declared.status.Status.TheVariants.{Done as done_status, Refused, Spent, NoMemory, TagDiffers, JudgedNo}
 
 -- the program is that of this file, and there is none where no file is of a program
 abbrev pub IsProgramOf : FilesState → Option FileAsked → Program → Type 0
@@ -33,6 +40,8 @@ asked_input (to_disassemble file) = None
 asked_input (to_measure file) = None
 asked_input (to_verify report) = None
 asked_input (to_bench number) = None
+asked_input (to_trace asked) = asked.execution.input
+asked_input (to_judge judge) = judge.execution.input
 
 -- the script is that of the file that a run names, and there is none where none is named
 abbrev pub IsAskedScript : FilesState → Asked → Option (List ScriptLine) → Type 0
@@ -43,15 +52,32 @@ IsAskedScript files (to_disassemble file) script = script ≡ None
 IsAskedScript files (to_measure file) script = script ≡ None
 IsAskedScript files (to_verify report) script = script ≡ None
 IsAskedScript files (to_bench number) script = script ≡ None
+IsAskedScript files (to_trace asked) script = IsScript files asked.execution.file.geometry asked.script script
+IsAskedScript files (to_judge judge) script = script ≡ None
 
--- the files tell all that a request for a program needs, in its form: this program, this script and this input
+-- the file that is to be judged is a trace
+abbrev pub HasAskedTrace : FilesState → Asked → Type 0
+HasAskedTrace files (to_run asked) = Unit {0}
+HasAskedTrace files (to_run_plain execution) = Unit {0}
+HasAskedTrace files (to_assemble file) = Unit {0}
+HasAskedTrace files (to_disassemble file) = Unit {0}
+HasAskedTrace files (to_measure file) = Unit {0}
+HasAskedTrace files (to_verify report) = Unit {0}
+HasAskedTrace files (to_bench number) = Unit {0}
+HasAskedTrace files (to_trace asked) = Unit {0}
+HasAskedTrace files (to_judge judge) =
+    (trace : Trace) × IsTraceFile files judge.execution.file.geometry judge.trace trace
+
+-- the files tell all that a request for a program needs, in its form: this program, this script and this input, and a trace
+-- where one is judged
 pub record Ready (asked : Asked) (files : FilesState) (program : Program) (script : Option (List ScriptLine)) (input : List ℕ) : Type 0 where
   pub tells : Tell files
   pub program_is : IsProgramOf files (asked_program asked) program
   pub script_is : IsAskedScript files asked script
   pub input_is : IsInput files (asked_input asked) input
+  pub trace_is : HasAskedTrace files asked
 
--- no write of what a request tells of itself failed; of a text, or of a generated program, nothing is told
+-- no write of what a request tells of itself failed; of a text, of a generated program, or of a verdict, nothing is told
 abbrev pub NoteFaultless : Asked → SinkState → SinkState → Type 0
 NoteFaultless (to_run asked) old new = ¬ (Rose old.faults new.faults)
 NoteFaultless (to_run_plain execution) old new = ¬ (Rose old.faults new.faults)
@@ -60,6 +86,8 @@ NoteFaultless (to_disassemble file) old new = Unit {0}
 NoteFaultless (to_measure file) old new = Unit {0}
 NoteFaultless (to_verify report) old new = ¬ (Rose old.faults new.faults)
 NoteFaultless (to_bench number) old new = Unit {0}
+NoteFaultless (to_trace asked) old new = ¬ (Rose old.faults new.faults)
+NoteFaultless (to_judge judge) old new = Unit {0}
 
 -- no read failed, no write did whose failure the status tells, and no answer of a bus was false
 pub record Faultless (asked : Asked) (old new : World) (done : Done) : Type 0 where
@@ -73,7 +101,8 @@ abbrev pub plain_status : ExecutionAsked → Program → List ℕ → Status
 plain_status execution program input =
     ending_status (ending_at (plain (opening execution.file.geometry program input) execution.steps) execution.steps)
 
--- The status that is due, or that of no memory; and of a run on protected memory, that of a page that was used up.
+-- The status that is due, or that of no memory; of a run on protected memory, that of a page that was used up; and of a
+-- judgement, that of either verdict.
 abbrev pub whole_statuses : Asked → Program → List ℕ → List Status
 whole_statuses (to_run asked) program input = plain_status asked.execution program input ∷ Spent ∷ NoMemory ∷ []
 whole_statuses (to_run_plain execution) program input = plain_status execution program input ∷ NoMemory ∷ []
@@ -82,6 +111,8 @@ whole_statuses (to_disassemble file) program input = done_status ∷ NoMemory �
 whole_statuses (to_measure file) program input = done_status ∷ NoMemory ∷ []
 whole_statuses (to_verify report) program input = []
 whole_statuses (to_bench number) program input = []
+whole_statuses (to_trace asked) program input = plain_status asked.execution program input ∷ Spent ∷ NoMemory ∷ []
+whole_statuses (to_judge judge) program input = done_status ∷ JudgedNo ∷ NoMemory ∷ []
 
 -- the status that is due of a report with this verdict
 abbrev pub verdict_status : Option ReportError → Status
@@ -96,3 +127,22 @@ abbrev pub RanWhole : ExecutionAsked → Program → List ℕ → Done → Type 
 RanWhole execution program input done = IsRunAnd done (λ run bus.
     IsWhole (opening execution.file.geometry program input) execution.steps run.retired run.ending
     × (done.status ≡ code_of (ending_status run.ending)))
+
+-- the run's trace was written whole, and it has one
+pub record WroteTrace (asked : RunAsked) (old new : World) (run : RunRecord) (bus : RunBus) : Type 0 where
+  pub traces : Traces asked old.files new.files old.out new.out run bus (Ok tt)
+  pub there : IsSome traces.trace
+
+-- the run is the plain machine's over the whole budget, and has its status, or a page of it was used up; and its trace was
+-- written whole
+pub record TracedWhole (asked : RunAsked) (program : Program) (input : List ℕ) (old new : World) (done : Done) : Type 0 where
+  pub wrote : IsRunAnd done (WroteTrace asked old new)
+  pub ran : (done.status ≡ code_of Spent) ⊎ RanWhole asked.execution program input done
+
+-- the verdict on this trace was written whole, and the status is that of this verdict
+pub record JudgedWhole (judge : JudgeAsked) (program : Program) (input : List ℕ) (trace : Trace) (old new : World) (done : Done)
+    : Type 0 where
+  pub difference : Option Difference
+  pub verdict : IsJudged (opening judge.execution.file.geometry program input) judge.execution.steps trace difference
+  pub written : Gains old.out (verdict_line difference) new.out
+  pub status_is : done.status ≡ code_of (found_status difference)

@@ -4,6 +4,7 @@ ghost use Rattle.std.specs.Option.{option_map};
 ghost use Rattle.chip_main.specs.Status as spec;
 
 use crate::status::Status;
+use bus_trace::Difference;
 use chip_device::RunBus;
 use chip_files::{Refusal, Stop};
 use chip_run::RunRecord;
@@ -27,6 +28,10 @@ pub enum Course {
     OtherTag,
     /// A generated program ran on protected memory, over this bus, and its summary was written, as far as this says.
     RanGenerated(RunRecord, RunBus, Result<(), SinkStop>),
+    /// A program ran on protected memory, over this bus, and its trace was written, as far as this says, where it has one.
+    RanTraced(RunRecord, RunBus, Result<(), SinkStop>),
+    /// A trace was judged, which differs first so, where it does, and the verdict was written, as far as this says.
+    Judged(Option<Difference>, Result<(), SinkStop>),
 }
 
 impl Course {
@@ -53,7 +58,10 @@ impl Course {
             Course::RanPlain(run) => ending_status(run.ending),
             Course::Written(written) => text_status(*written),
             Course::OtherTag => Status::TagDiffers,
-            Course::RanGenerated(run, _, written) => told_status(run, *written),
+            Course::RanGenerated(run, _, written) | Course::RanTraced(run, _, written) => {
+                told_status(run, *written)
+            }
+            Course::Judged(difference, written) => judged_status(*difference, *written),
         }
     }
 
@@ -69,6 +77,8 @@ impl Course {
             Course::Written(written) => text_status(*written),
             Course::OtherTag => Status::WriteFault,
             Course::RanGenerated(run, _, written) => told_status(run, *written),
+            Course::RanTraced(run, _, written) => untold_told_status(run, *written),
+            Course::Judged(difference, written) => judged_status(*difference, *written),
         }
     }
 
@@ -78,12 +88,15 @@ impl Course {
         ensures bus { option_map (λ ran. ran.1) result ≡ course_bus self }
     {
         match self {
-            Course::Ran(run, bus) | Course::RanGenerated(run, bus, _) => Some((run, bus)),
+            Course::Ran(run, bus)
+            | Course::RanGenerated(run, bus, _)
+            | Course::RanTraced(run, bus, _) => Some((run, bus)),
             Course::Refused(_)
             | Course::NoMemory
             | Course::RanPlain(_)
             | Course::Written(_)
-            | Course::OtherTag => None,
+            | Course::OtherTag
+            | Course::Judged(..) => None,
         }
     }
 }
@@ -98,7 +111,8 @@ fn refusal_status(refusal: &Refusal) -> Status
         | Refusal::Elf(_)
         | Refusal::Asm { .. }
         | Refusal::Script { .. }
-        | Refusal::Report(_) => Status::Refused,
+        | Refusal::Report(_)
+        | Refusal::Trace(_) => Status::Refused,
     }
 }
 
@@ -118,6 +132,16 @@ fn told_status(run: &RunRecord, written: Result<(), SinkStop>) -> Status
     match written {
         Ok(()) => run_status(run),
         Err(SinkStop::Failed) => untold_ending_status(run.ending),
+        Err(SinkStop::NoMemory) => Status::NoMemory,
+    }
+}
+
+// The same, where the run's record could not be told.
+fn untold_told_status(run: &RunRecord, written: Result<(), SinkStop>) -> Status
+    ensures { result ≡ spec.untold_told_status run.now written }
+{
+    match written {
+        Ok(()) | Err(SinkStop::Failed) => untold_ending_status(run.ending),
         Err(SinkStop::NoMemory) => Status::NoMemory,
     }
 }
@@ -167,5 +191,24 @@ fn text_status(written: Result<(), SinkStop>) -> Status
         Ok(()) => Status::Done,
         Err(SinkStop::Failed) => Status::WriteFault,
         Err(SinkStop::NoMemory) => Status::NoMemory,
+    }
+}
+
+fn judged_status(difference: Option<Difference>, written: Result<(), SinkStop>) -> Status
+    ensures { result ≡ spec.judged_status difference written }
+{
+    match written {
+        Ok(()) => found_status(difference),
+        Err(SinkStop::Failed) => Status::WriteFault,
+        Err(SinkStop::NoMemory) => Status::NoMemory,
+    }
+}
+
+fn found_status(difference: Option<Difference>) -> Status
+    ensures { result ≡ spec.found_status difference }
+{
+    match difference {
+        None => Status::Done,
+        Some(_) => Status::JudgedNo,
     }
 }

@@ -52,11 +52,16 @@ pub struct Done {
 /// - `verify FILE` checks a report, and tells what it says.
 /// - `bench NUMBER` runs a generated program on protected memory, on the terms that `run` has by default, and sums up
 ///   what it printed.
+/// - `trace FILE` runs a program as `run` does, and writes down what its bus was asked and answered, unless the run was out
+///   of memory.
+/// - `judge FILE TRACE` says whether the reads of a trace are true, but for a last one that ended its run as tampered, and
+///   the plain machine allows the rest, or how it first differs.
 ///
 /// But for `asm`, a program is an ELF file, or with `--flat` has the program's bytes and nothing else. `--layout N`, 1 or
-/// 2, and `--levels L`, 1 to 8 or to 5, say how large the memory is. Of `run` and `plain`, `--input FILE` names the
-/// program's input and `--steps N` how many instructions may be retired. Of `run` and `verify`, `--key HEX` is the key of
-/// the device. What is printed or made goes to `out`, the rest to `note`.
+/// 2, and `--levels L`, 1 to 8 or to 5, say how large the memory is. Of `run`, `plain`, `trace` and `judge`, `--input
+/// FILE` names the program's input and `--steps N` how many instructions may be retired. Of `run`, `trace` and `verify`,
+/// `--key HEX` is the key of the device. What is printed or made goes to `out`, the rest to `note`: of `trace`, `out`
+/// gets the trace, and what the program prints is in it.
 pub fn run_words<F: Files, O: Sink, N: Sink>(
     alloc: Global,
     words: &[&str],

@@ -1,15 +1,15 @@
 // What words ask for, done.
-ghost use Rattle.std.specs.Prelude.{◌≡◌, ◌≤◌, IfErr, IfOk};
-ghost use Rattle.chip_words.specs.Request.{request_of};
-ghost use Rattle.chip_words.specs.Words.{texts};
+ghost use Rattle.std.specs.Prelude.{◌≡◌, ◌≤◌, Ok, IfErr, IfOk};
+ghost use Rattle.chip_words.specs.Request.{request_of, to_judge, to_trace};
+ghost use Rattle.chip_words.specs.Words.{judge_asked, run_asked, texts};
 ghost use Rattle.chip_main.specs.Course.{CameAbout, course_status, stopped_course};
 ghost use Rattle.chip_main.specs.Status.{IsResult, code_of};
 
 use crate::course::Course;
-use crate::writing::{write_elf_file, write_measurement};
-use chip_device::{run_generated, run_on_device, run_plain};
-use chip_files::{Stop, take_execution, take_program, take_report, take_run};
-use chip_words::{Request, read_words, write_fields, write_summary};
+use crate::writing::{write_elf_file, write_measurement, write_trace, write_verdict};
+use chip_device::{judge_trace, run_generated, run_on_device, run_plain, trace_on_device};
+use chip_files::{Stop, take_execution, take_judged, take_program, take_report, take_run};
+use chip_words::{JudgedTrace, ProtectedRun, Request, read_words, write_fields, write_summary};
 use rv32_listing::write_listing;
 use sec_base::{Files, Sink};
 use std::alloc::Global;
@@ -94,5 +94,59 @@ fn course_of<F: Files, O: Sink>(
             );
             Ok(Course::RanGenerated(run, bus, written))
         }
+        Request::Trace(asked) => trace_course(alloc, &asked, files, out),
+        Request::Judge(asked) => judgement_course(alloc, &asked, files, out),
     }
+}
+
+// Runs a program over a bus that is recorded, and writes its trace.
+fn trace_course<F: Files, O: Sink>(
+    alloc: Global,
+    asked: &ProtectedRun<'_>,
+    files: &mut F,
+    out: &mut O,
+) -> Result<Course, Stop>
+    ensures came { IfOk result (λ course.
+        CameAbout course (Ok (to_trace (run_asked asked.now))) (F.state files.old)
+        (F.state files.new) (O.state out.old) (O.state out.new)) }
+    ensures stopped { IfErr result (λ stop.
+        CameAbout (stopped_course stop) (Ok (to_trace (run_asked asked.now))) (F.state files.old)
+        (F.state files.new) (O.state out.old) (O.state out.new)) }
+    ensures held { (F.state files.new).held ≡ (F.state files.old).held }
+    ensures files_faults { (F.state files.old).faults ≤ (F.state files.new).faults }
+    ensures out_faults { (O.state out.old).faults ≤ (O.state out.new).faults }
+    ensures quiet { IfOk result (λ course. IsResult (code_of (course_status course)) →
+        ((F.state files.new).faults ≡ (F.state files.old).faults)
+        × ((O.state out.new).faults ≡ (O.state out.old).faults)) }
+{
+    let (image, script, input) = take_run(alloc, asked, files)?;
+    let (run, bus, trace) = trace_on_device(alloc, &image, script, input.as_slice(), asked)?;
+    let written = write_trace(alloc, &trace, out);
+    Ok(Course::RanTraced(run, bus, written))
+}
+
+// Judges a trace, and writes the verdict.
+fn judgement_course<F: Files, O: Sink>(
+    alloc: Global,
+    asked: &JudgedTrace<'_>,
+    files: &mut F,
+    out: &mut O,
+) -> Result<Course, Stop>
+    ensures came { IfOk result (λ course.
+        CameAbout course (Ok (to_judge (judge_asked asked.now))) (F.state files.old)
+        (F.state files.new) (O.state out.old) (O.state out.new)) }
+    ensures stopped { IfErr result (λ stop.
+        CameAbout (stopped_course stop) (Ok (to_judge (judge_asked asked.now)))
+        (F.state files.old) (F.state files.new) (O.state out.old) (O.state out.new)) }
+    ensures held { (F.state files.new).held ≡ (F.state files.old).held }
+    ensures files_faults { (F.state files.old).faults ≤ (F.state files.new).faults }
+    ensures out_faults { (O.state out.old).faults ≤ (O.state out.new).faults }
+    ensures quiet { IfOk result (λ course. IsResult (code_of (course_status course)) →
+        ((F.state files.new).faults ≡ (F.state files.old).faults)
+        × ((O.state out.new).faults ≡ (O.state out.old).faults)) }
+{
+    let (image, input, trace) = take_judged(alloc, asked, files)?;
+    let difference = judge_trace(alloc, &image, input.as_slice(), &asked.execution, &trace)?;
+    let written = write_verdict(alloc, difference, out);
+    Ok(Course::Judged(difference, written))
 }

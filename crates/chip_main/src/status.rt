@@ -5,7 +5,7 @@ ghost use Rattle.chip_main.specs.Status.{code_of};
 /// The status of the process.
 #[derive(Clone, Copy, Debug, PartialEq, Eq)]
 pub enum Status {
-    /// A program halted, or a text was written.
+    /// A program halted, a text was written, or a trace follows.
     Done = 0,
     /// A program trapped.
     Trapped = 1,
@@ -29,10 +29,12 @@ pub enum Status {
     NoMemory = 10,
     /// A report was not made by this device.
     TagDiffers = 11,
+    /// A trace differs.
+    JudgedNo = 13,
 }
 
 impl Status {
-    /// The number, from 0 to 11.
+    /// The number, from 0 to 13. No status has 12.
     pub fn code(self) -> u8
         ensures { result ≡ code_of self }
     {

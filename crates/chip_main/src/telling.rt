@@ -10,8 +10,8 @@ use chip_files::Refusal;
 use chip_run::RunRecord;
 use chip_words::{
     RunNote, asm_fault_line, elf_fault_line, long_file_line, read_fault_line, report_fault_line,
-    script_fault_line, tag_differs_line, tell_plain, tell_run, tell_usage, value_fault_line,
-    write_line,
+    script_fault_line, tag_differs_line, tell_plain, tell_run, tell_usage, trace_fault_line,
+    value_fault_line, write_line,
 };
 use sec_base::{Sink, SinkStop};
 use std::alloc::Global;
@@ -24,8 +24,12 @@ pub fn tell<N: Sink>(alloc: Global, course: &Course, note: &mut N) -> Result<(),
 {
     match course {
         Course::Refused(refusal) => tell_refusal(alloc, refusal, note),
-        Course::NoMemory | Course::Written(_) | Course::RanGenerated(..) => Ok(()),
-        Course::Ran(run, bus) => tell_record(alloc, run, bus.lies(), note),
+        Course::NoMemory | Course::Written(_) | Course::RanGenerated(..) | Course::Judged(..) => {
+            Ok(())
+        }
+        Course::Ran(run, bus) | Course::RanTraced(run, bus, _) => {
+            tell_record(alloc, run, bus.lies(), note)
+        }
         Course::RanPlain(run) => tell_plain(alloc, run.ending, run.retired, note),
         Course::OtherTag => write_line(note, tag_differs_line()),
     }
@@ -56,6 +60,10 @@ fn tell_refusal<N: Sink>(alloc: Global, refusal: &Refusal, note: &mut N) -> Resu
         }
         Refusal::Report(fault) => {
             let line = report_fault_line(alloc, fault.code(), fault.name())?;
+            write_line(note, line.as_str())
+        }
+        Refusal::Trace(fault) => {
+            let line = trace_fault_line(alloc, fault.code(), fault.name())?;
             write_line(note, line.as_str())
         }
     }

@@ -1,9 +1,11 @@
-// What is written of a program.
+// What is written of a program, of a run's trace and of a judge's verdict.
 ghost use Rattle.std.specs.Prelude.{◌≡◌, ◌<◌, ◌≤◌, ◌^◌, IfOk, string_bytes, OnOk};
 ghost use Rattle.sec_base.specs.Segment.{segment_bytes};
 ghost use Rattle.sec_base.specs.Sink.{IsWritten};
-ghost use Rattle.chip_main.specs.Texts.{elf_file, measurement_line};
+ghost use Rattle.chip_main.specs.Texts.{elf_file, measurement_line, trace_file, verdict_line};
 
+use bus_trace::{Difference, Trace};
+use chip_words::{difference_line, follows_line, write_line};
 use elf_load::measure;
 use sec_base::{Image, Sink, SinkStop, write_all};
 use std::alloc::{AllocError, Global};
@@ -36,4 +38,40 @@ fn measurement_text(alloc: Global, image: &Image) -> Result<String, AllocError>
     let mut line = hex::encode(alloc, measure(image))?;
     line.push_str("\n")?;
     Ok(line)
+}
+
+/// Writes a run's trace, as one piece, and nothing where it has none.
+pub fn write_trace<O: Sink>(
+    alloc: Global,
+    trace: &Option<Trace>,
+    out: &mut O,
+) -> Result<(), SinkStop>
+    ensures told { IsWritten (trace_file trace.now) (O.state out.old) (O.state out.new) result }
+    ensures faults { (O.state out.old).faults ≤ (O.state out.new).faults }
+    ensures quiet { OnOk result ((O.state out.new).faults ≡ (O.state out.old).faults) }
+{
+    match trace {
+        None => Ok(()),
+        Some(trace) => {
+            let bytes = bus_trace::write(alloc, trace)?;
+            write_all(out, bytes.as_slice())
+        }
+    }
+}
+
+/// Writes the verdict on a trace as a line: that it follows, or how it first differs.
+pub fn write_verdict<O: Sink>(
+    alloc: Global,
+    difference: Option<Difference>,
+    out: &mut O,
+) -> Result<(), SinkStop>
+    ensures told { IsWritten (verdict_line difference) (O.state out.old) (O.state out.new)
+        result }
+    ensures faults { (O.state out.old).faults ≤ (O.state out.new).faults }
+    ensures quiet { OnOk result ((O.state out.new).faults ≡ (O.state out.old).faults) }
+{
+    match difference {
+        None => write_line(out, follows_line()),
+        Some(difference) => write_line(out, difference_line(alloc, difference)?.as_str()),
+    }
 }
