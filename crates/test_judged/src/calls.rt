@@ -11,6 +11,11 @@ pub(crate) const TRACE: [&str; 4] = ["chip", "trace", "f", "--flat"];
 /// Judges the trace `t` of the flat file `f`.
 pub(crate) const JUDGE: [&str; 5] = ["chip", "judge", "f", "t", "--flat"];
 
+/// The same of a run of two steps at most.
+pub(crate) const JUDGE_ON_2_STEPS: [&str; 7] = [
+    "chip", "judge", "f", "t", "--flat", "--steps", "2",
+];
+
 /// The same of a run on the input `i`.
 pub(crate) const JUDGE_ON_INPUT: [&str; 7] = ["chip", "judge", "f", "t", "--flat", "--input", "i"];
 

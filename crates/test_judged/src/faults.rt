@@ -1,7 +1,7 @@
 // Sinks that fail, that find no memory, and that take little of a piece. A trace is one piece, and so is a verdict.
 ghost use Rattle.std.specs.Prelude.{None};
 
-use crate::calls::{EXITED, JUDGE, TRACE, check_call, judged_files};
+use crate::calls::{EXITED, JUDGE, JUDGE_ON_2_STEPS, TRACE, check_call, judged_files};
 use chip_cases::{Call, EXIT_7, make_call, make_short_call, shows, without_report};
 use chip_main::run_words;
 use sec_base::{MemorySink, NoMemory, Sink, SinkStop};
@@ -22,7 +22,7 @@ type Failing = (
 );
 
 // A run is told where its trace is not written. A verdict is not told.
-const FAILING: [Failing; 7] = [
+const FAILING: [Failing; 9] = [
     (&TRACE, 1, 0, b"", TOLD, 9),
     (&TRACE, 2, 0, EXITED, TOLD, 0),
     (&TRACE, 0, 1, EXITED, b"", 9),
@@ -30,6 +30,8 @@ const FAILING: [Failing; 7] = [
     (&TRACE, 1, 1, b"", b"", 9),
     (&JUDGE, 1, 0, b"", b"", 9),
     (&JUDGE, 0, 1, b"judged follows\n", b"", 0),
+    (&JUDGE_ON_2_STEPS, 1, 0, b"", b"", 9),
+    (&JUDGE_ON_2_STEPS, 0, 1, b"judged no retired\n", b"", 13),
 ];
 
 fn call_failing(alloc: Global, words: &[&str], out: u64, note: u64) -> Result<Call, NoMemory> {

@@ -277,6 +277,37 @@ fn traces_are_judged(rt: HostRuntime) -> Result<(), Fail> {
     Ok(())
 }
 
+// A line's entry under layout 2 ends in eight zeros, since its tag has eight bytes.
+fn call_layout_2(alloc: Global) -> Result<Call, NoMemory> {
+    let mut files = attack_files(alloc, STORE_AND_PRINT, b"")?;
+    let words = ["chip", "trace", "p", "--layout", "2"];
+    let traced = make_call(alloc, &words, &mut files, &[], &[])?;
+    files.add("t", traced.out.bytes())?;
+    let words = ["chip", "judge", "p", "t", "--layout", "2"];
+    make_call(alloc, &words, &mut files, &[], &[])
+}
+
+#[test]
+fn a_trace_under_layout_2_is_judged(rt: HostRuntime) -> Result<(), Fail> {
+    check_judged(&rt, call_layout_2(rt.alloc()), FOLLOWS, &"layout 2")?;
+    Ok(())
+}
+
+// The row's run with evidence, whose trace is not written.
+fn call_unwritten(alloc: Global) -> Result<Call, NoMemory> {
+    let mut files = attack_files(alloc, STORE_AND_PRINT, FLIP_TWO_PIECES)?;
+    let words = ["chip", "trace", "p", "--script", "s", "--tags", "xor"];
+    make_call(alloc, &words, &mut files, &[1], &[])
+}
+
+#[test]
+fn evidence_whose_trace_is_not_written_is_a_write_fault(rt: HostRuntime) -> Result<(), Fail> {
+    let call = call_unwritten(rt.alloc())?;
+    check_bytes(&rt, call.out.bytes(), b"");
+    assert_eq!(rt; (call.done.status, call.done.lies), (9, 1));
+    Ok(())
+}
+
 // A run that is recorded tells what one tells that isn't, and its report, and is handed out as it is.
 fn check_same(rt: &impl Abort, traced: &Call, run: &Call, status: u8) {
     assert_eq!(rt; traced.note.bytes(), run.note.bytes());
