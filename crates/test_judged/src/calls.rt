@@ -20,24 +20,24 @@ pub(crate) const JUDGE_ON_2_STEPS: [&str; 7] = [
 pub(crate) const JUDGE_ON_INPUT: [&str; 7] = ["chip", "judge", "f", "t", "--flat", "--input", "i"];
 
 /// What a judgement prints, and its status.
-pub(crate) type Judged = (&'static [u8], u8);
+pub(crate) type Judged<'a> = (&'a [u8], u8);
 
-pub(crate) const FOLLOWS: Judged = (b"judged follows\n", 0);
+pub(crate) const FOLLOWS: Judged<'static> = (b"judged follows\n", 0);
 
-pub(crate) const NO_RETIRED: Judged = (b"judged no retired\n", 13);
+pub(crate) const NO_RETIRED: Judged<'static> = (b"judged no retired\n", 13);
 
-pub(crate) const NO_OUTPUT: Judged = (b"judged no output\n", 13);
+pub(crate) const NO_OUTPUT: Judged<'static> = (b"judged no output\n", 13);
 
-pub(crate) const NO_ENDING: Judged = (b"judged no ending\n", 13);
+pub(crate) const NO_ENDING: Judged<'static> = (b"judged no ending\n", 13);
 
 /// By the number of the entry that is the first false one.
-pub(crate) const NO_LIE_1: Judged = (b"judged no lie 1\n", 13);
+pub(crate) const NO_LIE_1: Judged<'static> = (b"judged no lie 1\n", 13);
 
-pub(crate) const NO_LIE_2: Judged = (b"judged no lie 2\n", 13);
+pub(crate) const NO_LIE_2: Judged<'static> = (b"judged no lie 2\n", 13);
 
-pub(crate) const NO_LIE_3: Judged = (b"judged no lie 3\n", 13);
+pub(crate) const NO_LIE_3: Judged<'static> = (b"judged no lie 3\n", 13);
 
-pub(crate) const NO_LIE_4: Judged = (b"judged no lie 4\n", 13);
+pub(crate) const NO_LIE_4: Judged<'static> = (b"judged no lie 4\n", 13);
 
 /// The trace of the program that exits with 7: it prints nothing, halts with 7, retires 3 instructions, and its lines stay
 /// on the chip.
@@ -135,7 +135,7 @@ where
 pub(crate) fn check_judged<R>(
     rt: &impl Abort,
     call: Result<Call, NoMemory>,
-    judged: Judged,
+    judged: Judged<'_>,
     row: &R,
 ) -> Result<(), NoMemory>
 where

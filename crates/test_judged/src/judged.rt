@@ -10,7 +10,11 @@ use std::alloc::Global;
 use std::test::Fail;
 
 // Options, other bytes of a trace and where they stand, and the verdict.
-type Edited = (&'static [&'static str], &'static [(usize, u8)], Judged);
+type Edited = (
+    &'static [&'static str],
+    &'static [(usize, u8)],
+    Judged<'static>,
+);
 
 // In the trace of the program that exits with 7 the ending stands at 13, its code at 14, and the retired count at 18.
 const EXITS: [Edited; 12] = [
@@ -92,7 +96,7 @@ const HEL_PRINTED: &[u8] = b"RVTR\x01\
     \x0b\0\0\0\0\0\0\0\
     \0\0\0\0\0\0\0\0";
 
-const INPUTS: [(&[u8], Judged); 4] = [
+const INPUTS: [(&[u8], Judged<'static>); 4] = [
     (b"hello", FOLLOWS),
     (b"hel", FOLLOWS),
     (b"jello", NO_OUTPUT),
@@ -136,7 +140,7 @@ const KIND_4: &[u8] = b"\x04\0\0\0\0";
 const TAMPERED: &[(usize, u8)] = &[(13, 5), (14, 0), (18, 2)];
 
 // Entries, other bytes of the trace and where they stand, and the verdict.
-type Answered = (&'static [Access], &'static [(usize, u8)], Judged);
+type Answered = (&'static [Access], &'static [(usize, u8)], Judged<'static>);
 
 const ENTRIES: [Answered; 11] = [
     (&[(READ_LINE_0, 0)], &[], FOLLOWS),

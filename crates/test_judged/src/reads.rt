@@ -98,11 +98,3 @@ fn a_trace_may_be_longer_than_any_program(rt: HostRuntime) -> Result<(), Fail> {
     check_call(&rt, call, shows(b"", b"refused trace 2 Magic\n", 3), &JUDGE)?;
     Ok(())
 }
-
-// It takes long where each access is checked as it is made.
-#[test]
-fn a_trace_has_a_limit(rt: HostRuntime) -> Result<(), Fail> {
-    let call = call_on_zeros(rt.alloc(), 67_108_865);
-    check_call(&rt, call, shows(b"", b"refused long\n", 3), &JUDGE)?;
-    Ok(())
-}

@@ -117,7 +117,7 @@ struct Row {
     options: &'static [&'static str],
     script: &'static [u8],
     status: u8,
-    judged: Judged,
+    judged: Judged<'static>,
 }
 
 const HMAC: &[&str] = &[];
