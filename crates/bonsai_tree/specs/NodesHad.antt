@@ -1,7 +1,7 @@
 -- Which nodes calls of the tree had on the chip, in order, and what that makes of the sets of their levels.
 use Rattle.std.specs.Prelude.{◌≡◌, ◌==◌, ◌⊎◌, ℕ, ◌+◌, ◌-◌, ◌%◌, ◌<◌, ◌≤◌, List, [], ◌∷◌, ◌++◌, drop, length, map, Bool, not, false, slice_index_or, if◌then◌else◌}
 use Rattle.std.specs.List.{Contains, filter, list_any}
-use Rattle.sec_base.specs.Geometry.{GeometryView}
+use Rattle.sec_base.specs.Geometry.{GeometryView, parent}
 use Rattle.sec_base.specs.declared.message.Message.{Message}
 use Rattle.sec_base.specs.declared.message.Message.TheVariants.{Node}
 use Rattle.sec_base.specs.declared.place.Place.{Place}
@@ -10,7 +10,7 @@ use Rattle.cache_set.specs.Cache.{place_of}
 use Rattle.bus_model.specs.BusHistory.{BusHistory}
 use Rattle.bonsai_tree.specs.Node.{path_index}
 use Rattle.bonsai_tree.specs.NodeCache.{level_cache, node_sets}
-use Rattle.bonsai_tree.specs.Tree.{TreeView, above}
+use Rattle.bonsai_tree.specs.Tree.{HasChild, TreeView, above}
 
 -- the nodes of a set of a level that have a copy, the least recently used one first
 abbrev pub set_order : TreeView → ℕ → ℕ → List ℕ
@@ -67,13 +67,17 @@ abbrev pub MayBeHad : GeometryView → (Place → Type 0) → List Message → �
 MayBeHad geometry Where more level index =
     ((page : ℕ) × Where (node_place 0 page) × (index ≡ path_index geometry level page)) ⊎ IsAboveMade geometry more level index
 
--- Nodes of a level and of those above it were had, one after another, and none but those that may be: each is the most recently
--- used one of its set then, and only of a full set one goes out for it, the least recently used one. A node is read once at most
--- for each time that it had no copy.
-pub record NodesHad (May : ℕ → ℕ → Type 0) (from : ℕ) (tree : TreeView) (old : BusHistory) (tree' : TreeView) (new : BusHistory)
+-- Nodes of a level and of those above it were had, one after another, all that must be and none but those that may be: each is
+-- the most recently used one of its set then, and only of a full set one goes out for it, the least recently used one. A node is
+-- read once at most for each time that it had no copy.
+pub record NodesHad (May Must : ℕ → ℕ → Type 0) (from : ℕ) (tree : TreeView) (old : BusHistory) (tree' : TreeView) (new : BusHistory)
     : Type 0 where
   pub had : List (ℕ × ℕ)
   pub each : (level index : ℕ) → Contains had (level, index) → (from ≤ level) × May level index
+  pub all : (level index : ℕ) → Must level index → Contains had (level, index)
+  -- with each node below the top that had no copy at first, its parent was had
+  pub climbed : (level index : ℕ) → Contains had (level, index) → level < tree.geometry.levels →
+      is_in index (set_order tree level (index % node_sets)) ≡ false → Contains had (parent tree.geometry level index)
   pub orders : (level set : ℕ) → set_order tree' level set ≡ after_had level set had (set_order tree level set)
   pub reads : (level index : ℕ) → from ≤ level →
       new.reads (node_place level index)
@@ -90,6 +94,11 @@ abbrev pub MayClimb : GeometryView → ℕ → ℕ → List Message → ℕ → 
 MayClimb geometry level index more other at =
     ((level ≤ other) × (at ≡ above geometry index (other - level))) ⊎ IsAboveMade geometry more other at
 
+-- the node itself, where the tree has its level, or the parent of one that was made
+abbrev pub MustClimb : GeometryView → ℕ → ℕ → List Message → ℕ → ℕ → Type 0
+MustClimb geometry level index more other at =
+    ((level ≤ geometry.levels) × (other ≡ level) × (at ≡ index)) ⊎ HasChild geometry more other at
+
 -- the order of each set is the same
 abbrev pub SameOrders : TreeView → TreeView → Type 0
 SameOrders tree tree' = (level set : ℕ) → set_order tree' level set ≡ set_order tree level set
@@ -100,16 +109,16 @@ pub record SetBecomes (level set : ℕ) (order : List ℕ) (tree tree' : TreeVie
   pub others : (other at : ℕ) → ¬ ((other ≡ level) × (at ≡ set)) → set_order tree' other at ≡ set_order tree other at
 
 -- Nodes of the levels above were had, and none of the level itself was read.
-pub record HadAbove (May : ℕ → ℕ → Type 0) (level : ℕ) (tree : TreeView) (old : BusHistory) (tree' : TreeView) (new : BusHistory)
+pub record HadAbove (May Must : ℕ → ℕ → Type 0) (level : ℕ) (tree : TreeView) (old : BusHistory) (tree' : TreeView) (new : BusHistory)
     : Type 0 where
-  pub had : NodesHad May (level + 1) tree old tree' new
+  pub had : NodesHad May Must (level + 1) tree old tree' new
   pub unread : (index : ℕ) → new.reads (node_place level index) ≡ old.reads (node_place level index)
 
 -- So it was, and then the least recently used one of two nodes is gone of the set of a node, which has room.
-pub record RoomHad (May : ℕ → ℕ → Type 0) (level index : ℕ) (tree : TreeView) (old : BusHistory) (tree' : TreeView) (new : BusHistory)
+pub record RoomHad (May Must : ℕ → ℕ → Type 0) (level index : ℕ) (tree : TreeView) (old : BusHistory) (tree' : TreeView) (new : BusHistory)
     : Type 0 where
   pub mid : TreeView
-  pub above : HadAbove May level tree old mid new
+  pub above : HadAbove May Must level tree old mid new
   pub room : SetBecomes level (index % node_sets) (with_room_in (set_order mid level (index % node_sets))) mid tree'
 
 -- A node came, as the most recently used one of its set, and was read once at most, and no other.

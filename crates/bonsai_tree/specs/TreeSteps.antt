@@ -13,7 +13,7 @@ use Rattle.bus_model.specs.BusHistory.{BusHistory}
 use Rattle.tag_engine.specs.TagEngine.{TagEngineView}
 use Rattle.checked_bus.specs.Steps.{IsAccounted, Moves, SameLines}
 use Rattle.bonsai_tree.specs.NodesHad.{MayBeHad, NodesHad}
-use Rattle.bonsai_tree.specs.Tree.{CameUnlessHeld, EndsQuietly, GoesOutFor, HasFewNodes, HoldsTree, NodesAreMade, NodesHoldLast, SlotsAreTags, TreeView, UnmadeAreUnread, WasReadUp, WritesBack, cached_node}
+use Rattle.bonsai_tree.specs.Tree.{CameUnlessHeld, EndsQuietly, GoesOutFor, HasChild, HasFewNodes, HoldsTree, NodesAreMade, NodesHoldLast, SlotsAreTags, TreeView, UnmadeAreUnread, WasReadUp, WritesBack, cached_node}
 
 -- The places that tampering and evidence may name are among these.
 pub record TreeSteps {T : Type 0} (tags : TagEngineView T → Message → List ℕ) (Where : Place → Type 0) (tree : TreeView) (old : BusHistory)
@@ -58,5 +58,7 @@ pub record TreeSteps {T : Type 0} (tags : TagEngineView T → Message → List �
   -- Unless a call is refused, a copy is evicted only where another node of its set came: one is enough for both ways of the set.
   pub out_for : HoldsTree tags tree old engine → engine'.evidence ≡ None → stop ≡ None → GoesOutFor tree old engine.made tree' new
   -- With evidence too: which nodes were had, in which order, and what that makes of each set, unless the call is refused. Each of
-  -- them is on the path of the page that is fetched, or above a node that was made.
-  pub nodes_had : stop ≡ None → NodesHad (MayBeHad tree.geometry Where moves.more) 1 tree old tree' new
+  -- them is on the path of the page that is fetched, or above a node that was made, and the parent of each node that was made is
+  -- among them.
+  pub nodes_had : stop ≡ None →
+      NodesHad (MayBeHad tree.geometry Where moves.more) (HasChild tree.geometry moves.more) 1 tree old tree' new
