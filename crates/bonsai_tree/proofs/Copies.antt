@@ -1,14 +1,13 @@
 -- The caches of all levels, where one of them changes.
-use Rattle.std.proofs.Common.{◌≡◌, ◌≢◌, inl, inr, ℕ, zero, suc, ◌+◌, ◌-◌, ◌<◌, ◌≤◌, List, [], ◌∷◌, ◌++◌, length, replicate, get_or, Some, None, IsSome, Bool, refl, ap, sym, ◌∙◌, subst, arith}
+use Rattle.std.proofs.Common.{◌≡◌, ◌≢◌, inl, inr, ℕ, zero, suc, ◌+◌, ◌-◌, ◌<◌, ◌≤◌, List, [], ◌∷◌, ◌++◌, length, replicate, get_or, Some, None, Bool, refl, ap, sym, ◌∙◌, subst, arith}
 use Rattle.std.proofs.Math.ListN.{set}
 use Rattle.std.proofs.lemmas.Bool.{cases_eq, cases_lt}
 use Rattle.std.proofs.lemmas.List.{get_or_default, get_or_past, get_or-replicate, get_or-set_same, get_or-set_other, length-replicate, length-set, replicate-append-replicate}
 use Rattle.sec_base.specs.Geometry.{GeometryView, IsNode}
 use Rattle.cache_set.specs.declared.way.Way.{Way}
-use Rattle.cache_set.specs.Cache.{IsCache, new_cache, places, set_at, way_at}
+use Rattle.cache_set.specs.Cache.{IsCache, new_cache, places, way_at}
 use Rattle.cache_set.proofs.Sets.{cache_new, none_new, few_in}
-use Rattle.cache_set.proofs.Ways.{latest_found}
-use Rattle.bonsai_tree.specs.NodeCache.{AreEmpty, AreNodeCaches, IsLatestNode, OtherLevels, OtherNodes, copied_nodes, level_cache, most_copies, node_sets, node_way}
+use Rattle.bonsai_tree.specs.NodeCache.{AreEmpty, AreNodeCaches, OtherLevels, OtherNodes, copied_nodes, level_cache, most_copies, node_sets, node_way}
 
 -- the cache of a level above level 0
 pub level_is : (caches : List (List (List Way))) (level : ℕ) → 0 < level → level_cache caches level ≡ get_or caches (level - 1) []
@@ -176,10 +175,3 @@ few_copies geometry caches (suc level) is =
           let none : level_cache caches (suc level) ≡ [] = get_or_past caches level [] (omega (arith, is.all)) in
           subst (λ (c : List (List Way)). length (places c) ≤ 16) (sym none) (omega arith)
     ]
-
--- a node whose copy is the most recently used one has a copy
-pub latest_held : (geometry : GeometryView) (caches : List (List (List Way))) (level index : ℕ) → AreNodeCaches geometry caches → 0 < level → level ≤ geometry.levels →
-    IsLatestNode caches level index → IsSome (node_way caches level index)
-latest_held geometry caches level index is some inside latest =
-    let cache : IsCache node_sets (level_cache caches level) = is.each level some inside in
-    latest_found index (set_at (level_cache caches level) index) latest

@@ -1,6 +1,7 @@
 -- Orders of the nodes of a set, and what the calls of a cache make of them.
-use Rattle.std.proofs.Common.{◌≡◌, ◌==◌, ℕ, ◌%◌, ◌<◌, List, [], ◌∷◌, ◌++◌, map, Option, Some, None, IsSome, Bool, true, false, not, cond, refl, sym, ◌∙◌, ap, subst, arith}
+use Rattle.std.proofs.Common.{◌≡◌, ◌==◌, ◌⊎◌, inl, inr, ℕ, ◌%◌, ◌<◌, List, [], ◌∷◌, ◌++◌, map, Option, Some, None, IsSome, Bool, true, false, not, cond, if◌then◌else◌, refl, sym, ◌∙◌, ap, subst, arith}
 use Rattle.std.specs.List.{Contains, filter}
+use Rattle.std.proofs.lemmas.Bool.{cases_Bool}
 use Rattle.std.proofs.lemmas.Bool.Decides.{nat_tests}
 use Rattle.std.proofs.lemmas.List.{map-append}
 use Rattle.std.proofs.lemmas.List.Elements.{Contains-append_right}
@@ -13,7 +14,8 @@ use Rattle.bonsai_tree.specs.NodesHad.{after_had, is_in, is_of_set, misses, once
 
 -- Orders of ways
 
-held_in : (index : ℕ) (ways : List Way) → IsSome (way_of index ways) → is_in index (map place_of ways) ≡ true
+-- a node with a way is among them
+pub held_in : (index : ℕ) (ways : List Way) → IsSome (way_of index ways) → is_in index (map place_of ways) ≡ true
 held_in index [] held = absurd (cc)
 held_in index (way ∷ ways) held = grind (arith, nat_tests, held_in index ways)
 
@@ -55,6 +57,18 @@ changed_order way (one ∷ []) is latest = grind (arith, nat_tests)
 changed_order way (one ∷ next ∷ []) is latest = grind (arith, nat_tests)
 changed_order way (one ∷ next ∷ more ∷ ways) is latest = absurd is
 
+-- the most recently used one of an order
+pub latest_in : List ℕ → Option ℕ
+latest_in [] = None
+latest_in (index ∷ []) = Some index
+latest_in (index ∷ next ∷ order) = latest_in (next ∷ order)
+
+pub latest_order_is : (ways : List Way) → latest_place ways ≡ latest_in (map place_of ways)
+unfolding latest_in
+latest_order_is [] = refl
+latest_order_is (way ∷ []) = refl
+latest_order_is (way ∷ next ∷ ways) = latest_order_is (next ∷ ways)
+
 -- a way comes
 pub added_order : (way : Way) (ways : List Way) → way_of way.place ways ≡ None → map place_of (with_latest way ways) ≡ map place_of ways ++ way.place ∷ []
 added_order way ways none =
@@ -72,6 +86,64 @@ pub room_order : (ways : List Way) → victim ways ≡ None → with_room_in (ma
 room_order [] none = refl
 room_order (one ∷ []) none = refl
 room_order (one ∷ next ∷ ways) none = absurd (cc)
+
+-- A node that came to an order
+
+in_others : (index other : ℕ) (order : List ℕ) → is_in index (filter (λ node. not (node == other)) order) ≡ true → is_in index order ≡ true
+in_others index other [] listed = listed
+in_others index other (node ∷ order) listed = grind (arith, nat_tests, in_others index other order)
+
+in_room : (index : ℕ) (order : List ℕ) → is_in index (with_room_in order) ≡ true → is_in index order ≡ true
+in_room index [] listed = listed
+in_room index (node ∷ []) listed = listed
+in_room index (node ∷ next ∷ order) listed = grind (arith, nat_tests)
+
+in_pushed : (index other : ℕ) (order : List ℕ) → is_in index (order ++ other ∷ []) ≡ true → (is_in index order ≡ true) ⊎ (index ≡ other)
+in_pushed index other [] listed = inr (grind (arith, nat_tests))
+in_pushed index other (node ∷ order) listed = grind (arith, nat_tests, in_pushed index other order)
+
+in_once : (index other : ℕ) (order : List ℕ) → is_in index (once_had other order) ≡ true → (is_in index order ≡ true) ⊎ (index ≡ other)
+in_once index other order listed = elim (cases_Bool (is_in other order)) [
+  | inl held ↦
+      let here : is_in index (filter (λ node. not (node == other)) order ++ other ∷ []) ≡ true =
+      sym (ap (λ (b : Bool). is_in index (cond b (filter (λ node. not (node == other)) order) (with_room_in order) ++ other ∷ [])) held) ∙ listed in
+      elim (in_pushed index other (filter (λ node. not (node == other)) order) here) [
+        | inl before ↦ inl (in_others index other order before)
+        | inr is ↦ inr is
+      ]
+  | inr absent ↦
+      let here : is_in index (with_room_in order ++ other ∷ []) ≡ true =
+      sym (ap (λ (b : Bool). is_in index (cond b (filter (λ node. not (node == other)) order) (with_room_in order) ++ other ∷ [])) absent) ∙ listed in
+      elim (in_pushed index other (with_room_in order) here) [
+        | inl before ↦ inl (in_room index order before)
+        | inr is ↦ inr is
+      ]
+]
+
+came_once : (level index : ℕ) (node : ℕ × ℕ) (order : List ℕ) → is_in index order ≡ false →
+    is_in index (if is_of_set level (index % node_sets) node then once_had node.1 order else order) ≡ true → (level, index) ≡ node
+came_once level index node order absent listed = elim (cases_Bool (is_of_set level (index % node_sets) node)) [
+  | inr other ↦
+      let here : is_in index order ≡ true = sym (ap (λ (b : Bool). is_in index (cond b (once_had node.1 order) order)) other) ∙ listed in
+      absurd (cc)
+  | inl own ↦
+      let here : is_in index (once_had node.1 order) ≡ true = sym (ap (λ (b : Bool). is_in index (cond b (once_had node.1 order) order)) own) ∙ listed in
+      elim (in_once index node.1 order here) [
+        | inl before ↦ absurd (cc)
+        | inr is ↦ let same : level ≡ node.0 = grind (arith, nat_tests) in ap (λ (k : ℕ). (k, index)) same ∙ ap (λ (i : ℕ). (node.0, i)) is
+      ]
+]
+
+-- it was had
+pub came_in : (level index : ℕ) (had : List (ℕ × ℕ)) (order : List ℕ) → is_in index order ≡ false →
+    is_in index (after_had level (index % node_sets) had order) ≡ true → Contains had (level, index)
+came_in level index [] order absent listed = absurd (cc)
+came_in level index (node ∷ had) order absent listed =
+    let next : List ℕ = if is_of_set level (index % node_sets) node then once_had node.1 order else order in
+    elim (cases_Bool (is_in index next)) [
+      | inl came ↦ subst (λ (n : ℕ × ℕ). Contains (node ∷ had) n) (sym (came_once level index node order absent came)) (0, omega arith, refl)
+      | inr still ↦ Contains-append_right (node ∷ []) had (level, index) (came_in level index had next still listed)
+    ]
 
 -- Nodes of other levels
 

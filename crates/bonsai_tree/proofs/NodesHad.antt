@@ -1,10 +1,11 @@
 -- Nodes that were had, by what becomes of the sets of their levels.
-use Rattle.std.proofs.Common.{◌≡◌, ◌==◌, inl, inr, ℕ, ◌+◌, ◌%◌, ◌≤◌, ◌≢◌, length, List, [], ◌∷◌, ◌++◌, map, get_or, Option, None, Some, IsSome, Bool, true, false, not, cond, refl, sym, ◌∙◌, ap, subst, arith}
-use Rattle.std.specs.List.{filter}
+use Rattle.std.proofs.Common.{◌≡◌, ◌==◌, ◌⊎◌, inl, inr, ℕ, ◌+◌, ◌%◌, ◌/◌, ◌<◌, ◌≤◌, ◌≢◌, length, List, [], ◌∷◌, ◌++◌, map, get_or, Option, None, Some, IsSome, Bool, true, false, not, cond, refl, sym, ◌∙◌, ap, subst, arith}
+use Rattle.std.specs.List.{Contains, filter}
 use Rattle.std.proofs.Math.ListN.{set}
 use Rattle.std.proofs.lemmas.Bool.{cases_eq}
 use Rattle.std.proofs.lemmas.List.{get_or-set_other, get_or-set_same}
-use Rattle.std.proofs.lemmas.List.Elements.{Contains-append_cases, Contains-push_cases}
+use Rattle.std.proofs.lemmas.List.Elements.{Contains-append_cases, Contains-append_left, Contains-append_right, Contains-push, Contains-push_cases}
+use Rattle.sec_base.specs.Geometry.{GeometryView, arity, parent}
 use Rattle.sec_base.specs.declared.place.Place.TheVariants.{Node as node_place}
 use Rattle.cache_set.specs.declared.way.Way.{Way}
 use Rattle.cache_set.specs.Bringing.{with_changed, with_new}
@@ -12,11 +13,11 @@ use Rattle.cache_set.specs.CacheSet.{IsSet, touched, victim, without}
 use Rattle.cache_set.specs.Cache.{IsCache, IsLatest, place_of, set_at, victim_for, victim_if, with_set}
 use Rattle.cache_set.proofs.Sets.{ways_at}
 use Rattle.bus_model.specs.BusHistory.{BusHistory}
-use Rattle.bonsai_tree.specs.NodeCache.{OtherLevels, level_cache, node_sets, node_way}
+use Rattle.bonsai_tree.specs.NodeCache.{IsLatestNode, OtherLevels, level_cache, node_sets, node_way}
 use Rattle.bonsai_tree.specs.NodesHad.{HadAbove, NodeAdded, NodesHad, RoomHad, SameOrders, SetBecomes, after_had, is_in, misses, once_had, set_order, with_room_in}
 use Rattle.bonsai_tree.specs.Tree.{TreeView}
-use Rattle.bonsai_tree.proofs.NodeOrders.{absent_in, added_order, after_above, changed_order, last_other, last_own, one_miss, room_order, touched_absent, touched_held, victim_order}
-use Rattle.bonsai_tree.proofs.NodesJoined.{after_had_on, misses_on, nodes_on}
+use Rattle.bonsai_tree.proofs.NodeOrders.{absent_in, added_order, after_above, changed_order, held_in, last_other, last_own, latest_in, latest_order_is, one_miss, room_order, touched_absent, touched_held, victim_order}
+use Rattle.bonsai_tree.proofs.NodesJoined.{after_had_on, climbed_on, misses_on}
 use Rattle.bonsai_tree.proofs.Nodes.{same_or_not}
 
 -- One set of a level
@@ -116,31 +117,61 @@ pub unlisted : (tree : TreeView) (level index : ℕ) → IsCache node_sets (leve
 unlisted tree level index is none =
     ap (is_in index) (sym (order_of tree tree level is (λ other apart. refl) index)) ∙ absent_in index (set_at (level_cache tree.caches level) index) none
 
+-- one with a way is in its order
+pub listed_in : (tree : TreeView) (level index : ℕ) → IsCache node_sets (level_cache tree.caches level) → IsSome (node_way tree.caches level index) →
+    is_in index (set_order tree level (index % node_sets)) ≡ true
+listed_in tree level index is some =
+    ap (is_in index) (sym (order_of tree tree level is (λ other apart. refl) index)) ∙ held_in index (set_at (level_cache tree.caches level) index) some
+
+-- where the orders are the same, so is the most recently used one
+pub latest_same : (tree tree' : TreeView) (level index : ℕ) → IsCache node_sets (level_cache tree.caches level) → IsCache node_sets (level_cache tree'.caches level) →
+    SameOrders tree tree' → IsLatestNode tree.caches level index → IsLatestNode tree'.caches level index
+latest_same tree tree' level index is is' same latest =
+    let before = order_of tree tree level is (λ other apart. refl) index in
+    let after = order_of tree' tree' level is' (λ other apart. refl) index in
+    latest_order_is (set_at (level_cache tree'.caches level) index) ∙ ap latest_in (after ∙ same level (index % node_sets) ∙ sym before)
+    ∙ sym (latest_order_is (set_at (level_cache tree.caches level) index)) ∙ latest
+
 -- Nodes that were had
 
 -- before a call that has none
-pub had_still : {May : ℕ → ℕ → Type 0} {from : ℕ} {tree mid tree' : TreeView} {first second third : BusHistory} → NodesHad May from tree first mid second →
-    SameOrders mid tree' → ((level index : ℕ) → from ≤ level → third.reads (node_place level index) ≡ second.reads (node_place level index)) →
-    NodesHad May from tree first tree' third
-had_still {May} {from} {tree} {mid} {tree'} {first} {second} {third} nodes same unread =
-    nodes_on nodes (record {
-      had = [];
-      each = λ level index listed. absurd (omega (arith, listed.1));
-      orders = same;
-      reads = λ level index high. omega (arith, unread level index high);
-    })
+pub had_still : {May Must : ℕ → ℕ → Type 0} {from : ℕ} {tree mid tree' : TreeView} {first second third : BusHistory} →
+    NodesHad May Must from tree first mid second → SameOrders mid tree' →
+    ((level index : ℕ) → from ≤ level → third.reads (node_place level index) ≡ second.reads (node_place level index)) →
+    NodesHad May Must from tree first tree' third
+had_still {May} {Must} {from} {tree} {mid} {tree'} {first} {second} {third} nodes same unread = record {
+  had = nodes.had;
+  each = nodes.each;
+  all = nodes.all;
+  climbed = nodes.climbed;
+  orders = λ level set. same level set ∙ nodes.orders level set;
+  reads = λ level index high. omega (arith, nodes.reads level index high, unread level index high);
+}
 
 is_here : (May : ℕ → ℕ → Type 0) (level index : ℕ) (node : ℕ × ℕ) → May level index → (level, index) ≡ node → (level ≤ node.0) × May node.0 node.1
 is_here May level index node may is = subst (λ (n : ℕ × ℕ). (level ≤ n.0) × May n.0 n.1) is (omega arith, may)
 
+listed_here : (had : List (ℕ × ℕ)) (level index other at : ℕ) → Contains had (level, index) → (other ≡ level) × (at ≡ index) → Contains had (other, at)
+listed_here had level index other at listed is =
+    subst (λ (k : ℕ). Contains had (k, at)) (sym is.0) (subst (λ (i : ℕ). Contains had (level, i)) (sym is.1) listed)
+
 -- one that had a copy
-pub had_one : {May : ℕ → ℕ → Type 0} {level : ℕ} (index : ℕ) {tree tree' : TreeView} {history : BusHistory} → May level index →
-    SetBecomes level (index % node_sets) (once_had index (set_order tree level (index % node_sets))) tree tree' → NodesHad May level tree history tree' history
-had_one {May} {level} index {tree} {tree'} {history} may became = record {
+pub had_one : {May Must : ℕ → ℕ → Type 0} {level : ℕ} (index : ℕ) {tree tree' : TreeView} {history : BusHistory} → May level index →
+    ((other at : ℕ) → Must other at → (other ≡ level) × (at ≡ index)) → is_in index (set_order tree level (index % node_sets)) ≡ true →
+    SetBecomes level (index % node_sets) (once_had index (set_order tree level (index % node_sets))) tree tree' → NodesHad May Must level tree history tree' history
+had_one {May} {Must} {level} index {tree} {tree'} {history} may here held became = record {
   had = (level, index) ∷ [];
   each = λ other at listed. elim (Contains-push_cases [] (level, index) (other, at) listed) [
     | inl none ↦ absurd (omega (arith, none.1))
     | inr is ↦ is_here May level index (other, at) may is
+  ];
+  all = λ other at must. listed_here ((level, index) ∷ []) level index other at (Contains-push [] (level, index)) (here other at must);
+  climbed = λ other at listed below absent. elim (Contains-push_cases [] (level, index) (other, at) listed) [
+    | inl none ↦ absurd (omega (arith, none.1))
+    | inr is ↦
+        let there : is_in at (set_order tree other (at % node_sets)) ≡ true =
+        subst (λ (n : ℕ × ℕ). is_in n.1 (set_order tree n.0 (n.1 % node_sets)) ≡ true) is held in
+        absurd (cc)
   ];
   orders = λ other at. elim (same_or_not level (index % node_sets) other at) [
     | inr apart ↦ became.others other at apart ∙ sym (last_other other at level index (set_order tree other at) apart)
@@ -150,10 +181,13 @@ had_one {May} {level} index {tree} {tree'} {history} may became = record {
 }
 
 -- one that came, after room was made for it and the nodes above it were had
-module _ (May : ℕ → ℕ → Type 0) (level index : ℕ) (tree start room parent tree' : TreeView) (first second third fourth : BusHistory) (may : May level index)
+module _ (May First Second Must : ℕ → ℕ → Type 0) (level index : ℕ) (tree start room parent_tree tree' : TreeView) (first second third fourth : BusHistory)
+    (may : May level index) (starts : start.geometry ≡ tree.geometry) (rooms : room.geometry ≡ tree.geometry)
+    (among : (other at : ℕ) → Must other at → First other at ⊎ (Second other at ⊎ ((other ≡ level) × (at ≡ index))))
+    (up : level < tree.geometry.levels → Second (level + 1) (index / arity tree.geometry))
     (same : SameOrders tree start) (absent : is_in index (set_order tree level (index % node_sets)) ≡ false)
-    (made : RoomHad May level index start first room second) (above : HadAbove May level room second parent third)
-    (came : NodeAdded level index parent third tree' fourth) where
+    (made : RoomHad May First level index start first room second) (above : HadAbove May Second level room second parent_tree third)
+    (came : NodeAdded level index parent_tree third tree' fourth) where
   abbrev own : List (ℕ × ℕ)
   own = made.above.had.had
 
@@ -182,7 +216,7 @@ module _ (May : ℕ → ℕ → Type 0) (level index : ℕ) (tree start room par
       let order = set_order tree level (index % node_sets) in
       let room_is : set_order room level (index % node_sets) ≡ with_room_in order =
       made.room.order_is ∙ ap with_room_in (mid_order level (index % node_sets) ∙ own_same order) in
-      let here : set_order parent level (index % node_sets) ≡ with_room_in order =
+      let here : set_order parent_tree level (index % node_sets) ≡ with_room_in order =
       above.had.orders level (index % node_sets) ∙ more_same (set_order room level (index % node_sets)) ∙ room_is in
       let once : with_room_in order ++ index ∷ [] ≡ once_had index order =
       ap (λ (b : Bool). cond b (filter (λ other. not (other == index)) order) (with_room_in order) ++ index ∷ []) (sym absent) in
@@ -235,7 +269,29 @@ module _ (May : ℕ → ℕ → Type 0) (level index : ℕ) (tree start room par
   higher : (other at : ℕ) → (level + 1 ≤ other) × May other at → (level ≤ other) × May other at
   higher other at had = (omega (arith, had.0), had.1)
 
-  pub had_came : NodesHad May level tree first tree' fourth
+  -- with each of the first part that had no copy its parent was had, and so with each of the second
+  own_climbed : (other at : ℕ) → Contains own (other, at) → other < tree.geometry.levels → is_in at (set_order tree other (at % node_sets)) ≡ false →
+      Contains all (parent tree.geometry other at)
+  own_climbed other at listed below none =
+      Contains-append_left own (more ++ (level, index) ∷ []) (parent tree.geometry other at)
+      (subst (λ (k : GeometryView). Contains own (parent k other at)) starts
+      (made.above.had.climbed other at listed (subst (λ (k : GeometryView). other < k.levels) (sym starts) below) (ap (is_in at) (same other (at % node_sets)) ∙ none)))
+
+  in_more : (node : ℕ × ℕ) → Contains more node → Contains all node
+  in_more node listed = Contains-append_right own (more ++ (level, index) ∷ []) node (Contains-append_left more ((level, index) ∷ []) node listed)
+
+  more_climbed : (other at : ℕ) → Contains more (other, at) → other < tree.geometry.levels → is_in at (set_order tree other (at % node_sets)) ≡ false →
+      Contains all (parent tree.geometry other at)
+  more_climbed other at listed below none =
+      let apart : ¬ ((other ≡ level) × (at % node_sets ≡ index % node_sets)) = λ here. omega (arith, here.0, (above.had.each other at listed).0) in
+      elim (climbed_on tree room own other at (room_order_is other (at % node_sets) apart) none) [
+        | inl early ↦ own_climbed other at early below none
+        | inr still ↦ in_more (parent tree.geometry other at)
+            (subst (λ (k : GeometryView). Contains more (parent k other at)) rooms
+            (above.had.climbed other at listed (subst (λ (k : GeometryView). other < k.levels) (sym rooms) below) still))
+      ]
+
+  pub had_came : NodesHad May Must level tree first tree' fourth
   had_came = record {
     had = all;
     each = λ other at listed. elim (Contains-append_cases own (more ++ (level, index) ∷ []) (other, at) listed) [
@@ -243,6 +299,24 @@ module _ (May : ℕ → ℕ → Type 0) (level index : ℕ) (tree start room par
       | inr late ↦ elim (Contains-push_cases more (level, index) (other, at) late) [
         | inl later ↦ higher other at (above.had.each other at later)
         | inr is ↦ is_here May level index (other, at) may is
+      ]
+    ];
+    all = λ other at must. elim (among other at must) [
+      | inl early ↦ Contains-append_left own (more ++ (level, index) ∷ []) (other, at) (made.above.had.all other at early)
+      | inr late ↦ elim late [
+        | inl later ↦ in_more (other, at) (above.had.all other at later)
+        | inr is ↦ listed_here all level index other at
+            (Contains-append_right own (more ++ (level, index) ∷ []) (level, index) (Contains-push more (level, index))) is
+      ]
+    ];
+    climbed = λ other at listed below none. elim (Contains-append_cases own (more ++ (level, index) ∷ []) (other, at) listed) [
+      | inl early ↦ own_climbed other at early below none
+      | inr late ↦ elim (Contains-push_cases more (level, index) (other, at) late) [
+        | inl later ↦ more_climbed other at later below none
+        | inr is ↦
+            let level_is : level ≡ other = ap (λ (n : ℕ × ℕ). n.0) is in
+            subst (λ (n : ℕ × ℕ). Contains all (parent tree.geometry n.0 n.1)) is
+            (in_more (parent tree.geometry level index) (above.had.all (level + 1) (index / arity tree.geometry) (up (omega (arith, below, level_is)))))
       ]
     ];
     orders = λ other at. elim (same_or_not level (index % node_sets) other at) [

@@ -10,7 +10,7 @@ use Rattle.bus_model.specs.BusHistory.{BusHistory}
 use Rattle.tag_engine.specs.TagEngine.{TagEngineView, tags_of}
 use Rattle.bonsai_tree.specs.Climb.{Climbs}
 use Rattle.bonsai_tree.specs.NodeCache.{AreNodeCaches}
-use Rattle.bonsai_tree.specs.Tree.{EndsQuietly, GoesOutFor, HasFewNodes, HoldsTree, TreeView, WritesBack, path_accesses}
+use Rattle.bonsai_tree.specs.Tree.{EndsQuietly, GoesOutFor, HasChild, HasFewNodes, HoldsTree, TreeView, WritesBack, path_accesses}
 use Rattle.bonsai_tree.specs.NodesHad.{MayBeHad, NodesHad, since}
 use Rattle.bonsai_tree.specs.TreeCall.{TreeCall}
 use Rattle.bonsai_tree.proofs.Copies.{few_copies}
@@ -24,7 +24,7 @@ pub tree_called : {T : Type 0} (d n : T → List ℕ → List ℕ) {Where : Plac
     ((place : Place) → stop ≡ Some (Tampered place) → Where place) →
     (engine.evidence ≡ None → (evidence : Evidence) → engine'.evidence ≡ Some evidence → Where (evidence_place evidence)) →
     (HoldsTree (tags_of d n) tree old engine → engine'.evidence ≡ None → stop ≡ None → GoesOutFor tree old engine.made tree' new) →
-    (stop ≡ None → NodesHad (MayBeHad tree.geometry Where (since engine.made engine'.made)) 1 tree old tree' new) →
+    (stop ≡ None → NodesHad (MayBeHad tree.geometry Where (since engine.made engine'.made)) (HasChild tree.geometry (since engine.made engine'.made)) 1 tree old tree' new) →
     TreeCall (tags_of d n) Where tree old engine tree' new engine' stop
 tree_called d n {Where} {from} {tree} {tree'} {old} {new} {engine} {engine'} {stop} climbs nodes back once few tampered found out_for had =
     let few_nodes : HasFewNodes tree' = λ level. few_copies tree'.geometry tree'.caches level nodes in record {
@@ -51,7 +51,7 @@ tree_called d n {Where} {from} {tree} {tree'} {old} {new} {engine} {engine'} {st
         written_back = back;
         out_for = out_for;
         nodes_had = λ ended.
-            subst (λ (more : List Message). NodesHad (MayBeHad tree.geometry Where more) 1 tree old tree' new)
+            subst (λ (more : List Message). NodesHad (MayBeHad tree.geometry Where more) (HasChild tree.geometry more) 1 tree old tree' new)
             (since_is engine.made engine'.made climbs.moves.more climbs.moves.made) (had ended);
       };
       once = once;

@@ -16,11 +16,11 @@ use Rattle.checked_bus.specs.Steps.{IsAccounted}
 use Rattle.checked_bus.proofs.Steps.{moves_not, moves_on, same_lines_not, same_lines_on}
 use Rattle.bonsai_tree.specs.Climb.{NoNode}
 use Rattle.bonsai_tree.specs.NodesHad.{MayBeHad, NodesHad}
-use Rattle.bonsai_tree.specs.Tree.{EndsQuietly, NodesAreMade, NodesHoldLast, SlotsAreTags, TreeView}
+use Rattle.bonsai_tree.specs.Tree.{HasChild, NodesAreMade, NodesHoldLast, SlotsAreTags, TreeView}
 use Rattle.bonsai_tree.specs.TreeSteps.{TreeSteps}
 use Rattle.bonsai_tree.proofs.Climbs.{read_up_held, read_up_on, unless_held_on, unmade_before}
 use Rattle.bonsai_tree.proofs.Nodes.{same_tags, some_not_none}
-use Rattle.bonsai_tree.proofs.NodesJoined.{may_wider, nodes_none, nodes_on, nodes_wider, since_both, since_is}
+use Rattle.bonsai_tree.proofs.NodesJoined.{child_not, child_on, may_wider, nodes_none, nodes_on, nodes_wider, since_both, since_is}
 use Rattle.bonsai_tree.proofs.OutFor.{out_kept, out_on}
 use Rattle.bonsai_tree.proofs.WrittenBack.{back_on, up_same}
 
@@ -50,7 +50,11 @@ steps_not d n Where tree history engine = record {
   written_back =
       (up_same {Own = NoNode} (λ place. omega arith) refl (λ level index. refl)).back;
   out_for = λ holds quiet going. out_kept (λ level index held. held);
-  nodes_had = λ going. nodes_none _ 1 tree history;
+  nodes_had = λ going.
+      let none = moves_not history engine in
+      subst (λ (more : List Message). NodesHad (MayBeHad tree.geometry Where more) (HasChild tree.geometry more) 1 tree history tree history)
+      (since_is engine.made engine.made none.more none.made)
+      (nodes_none _ 1 tree history (child_not tree.geometry engine.made));
 }
 
 -- one call after another
@@ -136,8 +140,12 @@ steps_on d n Where tree mid tree' first second third engine engine' engine'' sto
           out_on steps.geometry steps.moves.reads more.moves.reads unmade
           (steps.out_for holds (still quiet) refl) (more.out_for (steps.holds holds going) quiet ended);
       nodes_had = λ ended.
-          subst (λ (made : List Message). NodesHad (MayBeHad tree.geometry Where made) 1 tree first tree' third) (sym all)
-          (nodes_on (nodes_wider _ _ (λ level index high. may_wider steps.moves.more both refl
+          subst (λ (made : List Message). NodesHad (MayBeHad tree.geometry Where made) (HasChild tree.geometry made) 1 tree first tree' third) (sym all)
+          (nodes_on steps.geometry (λ level index child. elim (child_on tree.geometry steps.moves.more more.moves.more level index child) [
+            | inl early ↦ inl early
+            | inr late ↦ inr (subst (λ (k : GeometryView). HasChild k more.moves.more level index) (sym steps.geometry) late)
+          ])
+          (nodes_wider _ _ (λ level index high. may_wider steps.moves.more both refl
           (Contains-append_left steps.moves.more more.moves.more) Where Where (λ place may. may) level index) (steps.nodes_had refl))
           (nodes_wider _ _ (λ level index high. may_wider more.moves.more both steps.geometry
           (Contains-append_right steps.moves.more more.moves.more) Where Where (λ place may. may) level index) (more.nodes_had ended)));

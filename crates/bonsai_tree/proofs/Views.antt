@@ -1,10 +1,11 @@
 -- What becomes of the tree that contracts see, by what becomes of the caches of its nodes.
-use Rattle.std.proofs.Common.{◌≡◌, ◌≢◌, ℕ, ◌<◌, ◌≤◌, List, Option, Some, None, IsSome, ap, sym, ◌∙◌}
+use Rattle.std.proofs.Common.{◌≡◌, ◌≢◌, ℕ, List, Option, Some, None, IsSome, ap, sym, ◌∙◌}
 use Rattle.std.specs.Option.{option_map}
 use Rattle.cache_set.specs.declared.way.Way.{Way}
-use Rattle.bonsai_tree.specs.NodeCache.{AreNodeCaches, IsLatestNode, NodeCacheView, OtherLevels, OtherNodes, copy_of, level_cache, node_way}
+use Rattle.cache_set.specs.Cache.{set_at}
+use Rattle.cache_set.proofs.Ways.{latest_found}
+use Rattle.bonsai_tree.specs.NodeCache.{IsLatestNode, NodeCacheView, OtherLevels, OtherNodes, copy_of, level_cache, node_way}
 use Rattle.bonsai_tree.specs.Tree.{TreeView, cached_node}
-use Rattle.bonsai_tree.proofs.Copies.{latest_held}
 use Rattle.bonsai_tree.proofs.Nodes.{SameNode}
 
 -- the tree over caches of nodes
@@ -16,10 +17,9 @@ some_copy None some none = absurd (cc)
 some_copy (Some way) some none = absurd (cc)
 
 -- a node whose copy is the most recently used one has a copy
-pub latest_cached : (tree : TreeView) (level index : ℕ) → AreNodeCaches tree.geometry tree.caches → 0 < level → level ≤ tree.geometry.levels →
-    IsLatestNode tree.caches level index → cached_node tree level index ≢ None
-latest_cached tree level index are some inside latest =
-    some_copy (node_way tree.caches level index) (latest_held tree.geometry tree.caches level index are some inside latest)
+pub latest_cached : (tree : TreeView) (level index : ℕ) → IsLatestNode tree.caches level index → cached_node tree level index ≢ None
+latest_cached tree level index latest =
+    some_copy (node_way tree.caches level index) (latest_found index (set_at (level_cache tree.caches level) index) latest)
 
 module _ {tree : TreeView} (root : List ℕ) (nodes nodes' : NodeCacheView) (view_is : tree_of root nodes ≡ tree) where
   pub geometry_as : nodes'.geometry ≡ nodes.geometry → nodes'.geometry ≡ tree.geometry

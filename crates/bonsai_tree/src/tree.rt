@@ -191,9 +191,11 @@ impl Tree {
             self.old (B.history bus.old) tags.old self.new (B.history bus.new) tags.new
             (result_err result) }
 
-        // The page's last block is the new one. No page gets another block than the page itself, and that once at most, where
-        // the call is refused too.
+        // The page's last block is the new one, and no other page gets another. The page's own is made once, and once at most
+        // where the call is refused: its last block is the old or the new one then.
         ensures block { OnOk result (last_node 0 page tags.new.made ≡ Some block.now) }
+        ensures others { (other : ℕ) → other ≢ page →
+            last_node 0 other tags.new.made ≡ last_node 0 other tags.old.made }
         ensures beside { (other : ℕ) → other ≢ page →
             (B.history bus.new).written (node_place 0 other)
             ≡ (B.history bus.old).written (node_place 0 other) }

@@ -1,4 +1,4 @@
-use Rattle.std.proofs.Common.{◌≡◌, ◌≢◌, inl, inr, ◌+◌, ◌/◌, ℕ, true, List, length, Option, Some, None, IsSome, ◌≤◌, refl, ap, sym, ◌∙◌, subst, arith, rules, [], ◌∷◌, ◌++◌}
+use Rattle.std.proofs.Common.{◌≡◌, ◌≢◌, inl, inr, ◌+◌, ◌/◌, ℕ, true, List, length, Some, None, IsSome, ◌≤◌, refl, ap, sym, ◌∙◌, subst, arith, rules, [], ◌∷◌, ◌++◌}
 use Rattle.std.specs.Option.{option_map}
 use Rattle.std.specs.Result.{result_err}
 use Rattle.std.proofs.lemmas.List.Elements.{Contains-push}
@@ -7,27 +7,24 @@ use Rattle.sec_base.specs.declared.message.Message.{Message}
 use Rattle.sec_base.specs.declared.message.Message.TheVariants.{Node}
 use Rattle.sec_base.specs.declared.place.Place.{Place}
 use Rattle.sec_base.specs.declared.place.Place.TheVariants.{Node as node_place}
-use Rattle.sec_base.specs.declared.stop.MemStop.{MemStop}
 use Rattle.sec_base.specs.declared.stop.MemStop.TheVariants.{NoMemory}
 use Rattle.sec_base.proofs.Results.{was_none}
 use Rattle.cache_set.specs.declared.way.Way.{Way}
-use Rattle.cache_set.specs.CacheSet.{touched, without}
+use Rattle.cache_set.specs.CacheSet.{HasRoom, touched, without}
 use Rattle.cache_set.specs.Cache.{set_at, victim_for, way_at, with_set}
 use Rattle.tag_engine.specs.TagEngine.{tags_of}
-use Rattle.checked_bus.specs.Makes.{Makes}
 use Rattle.checked_bus.proofs.Makes.{makes_not}
-use Rattle.bonsai_tree.specs.Climb.{Climbs, IsBlockOf, IsVictim, NoNode, WritesUp}
 use Rattle.bonsai_tree.specs.NodeCache.{AreNodeCaches, copy_of, level_cache, node_way}
-use Rattle.bonsai_tree.specs.NodesHad.{MayClimb, NodesHad, since}
-use Rattle.bonsai_tree.specs.Tree.{EndsQuietly, TreeView, HoldsTree}
+use Rattle.bonsai_tree.specs.NodesHad.{MayClimb, MustClimb, NodesHad, since}
+use Rattle.bonsai_tree.specs.Tree.{TreeView, HoldsTree}
 use Rattle.bonsai_tree.proofs.Climbs.{climbs_not, climbs_on, climbs_up, unmade_before}
 use Rattle.bonsai_tree.proofs.NodeCalls.{climbs_dropped, climbs_touched}
 use Rattle.bonsai_tree.proofs.Accesses.{present_first, present_second}
 use Rattle.bonsai_tree.proofs.Views.{all_as, geometry_as, not_held, others_as, root_as, same_as, tree_of}
 use Rattle.bonsai_tree.proofs.OutFor.{on_ok, out_came, out_kept, out_on, room_kept, room_made}
 use Rattle.bonsai_tree.proofs.WrittenBack.{made_more, up_as, up_climbed, up_same, up_victim, up_wider}
-use Rattle.bonsai_tree.proofs.NodesJoined.{above_wider, climb_here, climb_made, climb_parent, climb_wider, made_wider, nodes_none, nodes_wider, room_wider, since_after, since_before, since_first, since_second}
-use Rattle.bonsai_tree.proofs.NodesHad.{had_came, had_one, had_still, removed_here, room_here, touched_here, touched_same, unlisted}
+use Rattle.bonsai_tree.proofs.NodesJoined.{above_wider, child_not, climb_here, climb_made, climb_parent, climb_wider, made_wider, must_joined, must_made, must_parent, nodes_fewer, nodes_none, nodes_wider, room_wider, since_after, since_before, since_first, since_joined, since_second}
+use Rattle.bonsai_tree.proofs.NodesHad.{had_came, had_one, had_still, listed_in, removed_here, room_here, touched_here, touched_same, unlisted}
 use Rattle.bonsai_tree.proofs.TreeMakes.{makes_after, makes_climbed, makes_wrote}
 use Rattle.bonsai_tree.proofs.tree.Tree.+present.Goals as goal
 
@@ -120,7 +117,7 @@ present-returns-in_err-parent_present-clause-few g t c =
 pub present-returns-clause-few : goal.present-returns-clause-few
 present-returns-clause-few g t c =
     present_second c.args.self.now.geometry c.touch.new.self.geometry c.make_room.new.self.geometry c.args.level (length c.args.tags.now.made) (length c.make_room.new.tags.made) (length c.parent_present.new.tags.made) (length c.read_in.new.tags.made) c.requires.node.0
-    (geometry_as c.self.inside.root c.self.inside.nodes c.touch.new.self c.self.view_is c.if-touch.ensures.geometry) (c.in_ok-make_room.ensures.climbs.geometry ∙ (geometry_as c.self.inside.root c.self.inside.nodes c.touch.new.self c.self.view_is c.if-touch.ensures.geometry)) c.in_ok-make_room.ensures.few c.in_ok-parent_present.ensures.few c.read_in.ensures.few
+    (geometry_as c.self.inside.root c.self.inside.nodes c.touch.new.self c.self.view_is c.if-touch.ensures.geometry) (c.in_ok-make_room.ensures.climbs.geometry ∙ (geometry_as c.self.inside.root c.self.inside.nodes c.touch.new.self c.self.view_is c.if-touch.ensures.geometry)) c.in_ok-make_room.ensures.few c.in_ok-parent_present.ensures.few (omega (arith, ap length c.read_in.ensures.made))
 
 pub write_back-returns-then-not-victim-clause-climbs : goal.write_back-returns-then-not-victim-clause-climbs
 write_back-returns-then-not-victim-clause-climbs g t c = climbs_not g.T.Tagger.data_tag_of g.T.Tagger.node_tag_of
@@ -275,6 +272,23 @@ write_back-returns-clause-copies g t c =
     c.in_ok-write_below.ensures.copies c.args.level (λ (same : c.args.level ≡ c.args.level + 1). absurd (omega (arith, same)))
     ∙ c.in_ok-parent_present.ensures.climbs.copies c.args.level (omega arith)
 
+pub write_back-returns-in_err-write_below-clause-copies : goal.write_back-returns-in_err-write_below-clause-copies
+write_back-returns-in_err-write_below-clause-copies g t c =
+    c.in_err-write_below.ensures.copies c.args.level (λ (same : c.args.level ≡ c.args.level + 1). absurd (omega (arith, same)))
+    ∙ c.in_ok-parent_present.ensures.climbs.copies c.args.level (omega arith)
+
+-- What a read of a node rests on
+
+pub present-read_in-requires-clause-absent : goal.present-read_in-requires-clause-absent
+present-read_in-requires-clause-absent g t c =
+    ap (λ (cache : List (List Way)). way_at cache c.args.index) (c.in_ok-parent_present.ensures.climbs.copies c.args.level (omega arith))
+    ∙ c.in_ok-make_room.ensures.absent
+
+pub present-read_in-requires-clause-room : goal.present-read_in-requires-clause-room
+present-read_in-requires-clause-room g t c =
+    subst (λ (cache : List (List Way)). HasRoom (set_at cache c.args.index)) (sym (c.in_ok-parent_present.ensures.climbs.copies c.args.level (omega arith)))
+    c.in_ok-make_room.ensures.room
+
 -- What copies go out for
 
 pub parent_present-returns-then-level-levels-clause-out_for : goal.parent_present-returns-then-level-levels-clause-out_for
@@ -333,7 +347,15 @@ present-returns-clause-out_for g t c = λ holds quiet.
 
 pub parent_present-returns-then-level-levels-clause-had : goal.parent_present-returns-then-level-levels-clause-had
 parent_present-returns-then-level-levels-clause-had g t c =
-    record { had = nodes_none _ (c.args.level + 1) c.args.self.now (g.B.Bus.history c.args.bus.now); unread = λ index. refl }
+    let top : c.args.level ≡ c.args.self.now.geometry.levels = search rules in
+    record {
+      had =
+          nodes_none _ (c.args.level + 1) c.args.self.now (g.B.Bus.history c.args.bus.now) (λ other at must. elim must [
+            | inl here ↦ absurd (omega (arith, here.0, top))
+            | inr child ↦ child_not c.args.self.now.geometry c.args.tags.now.made other at child
+          ]);
+      unread = λ index. refl;
+    }
 
 pub parent_present-returns-clause-had : goal.parent_present-returns-clause-had
 parent_present-returns-clause-had g t c =
@@ -345,14 +367,17 @@ parent_present-returns-clause-had g t c =
     on_ok c.present.result c.present.ensures.had (λ had. record {
       had =
           nodes_wider _ _ (climb_parent more more refl (λ message listed. listed) c.args.level c.args.index)
-          (subst (λ (index : ℕ). NodesHad (MayClimb geometry (c.args.level + 1) index more) (c.args.level + 1) c.args.self.now (g.B.Bus.history c.args.bus.now)
+          (subst (λ (index : ℕ). NodesHad (MayClimb geometry (c.args.level + 1) index more) (MustClimb geometry (c.args.level + 1) index more) (c.args.level + 1) c.args.self.now (g.B.Bus.history c.args.bus.now)
           c.present.new.self (g.B.Bus.history c.present.new.bus)) parent_is had);
       unread = λ index. c.present.ensures.climbs.reads c.args.level index (omega arith);
     })
 
 pub write_back-returns-then-not-victim-clause-had : goal.write_back-returns-then-not-victim-clause-had
 write_back-returns-then-not-victim-clause-had g t c =
-    record { had = nodes_none _ (c.args.level + 1) c.args.self.now (g.B.Bus.history c.args.bus.now); unread = λ index. refl }
+    record {
+      had = nodes_none _ (c.args.level + 1) c.args.self.now (g.B.Bus.history c.args.bus.now) (child_not c.args.self.now.geometry c.args.tags.now.made);
+      unread = λ index. refl;
+    }
 
 pub write_back-returns-clause-had : goal.write_back-returns-clause-had
 write_back-returns-clause-had g t c =
@@ -364,13 +389,15 @@ write_back-returns-clause-had g t c =
     let own : List Message = Node c.args.level c.args.victim.now.place c.args.victim.now.copy ∷ [] in
     record {
       had =
-          had_still (nodes_wider _ _
+          had_still (nodes_fewer
+          (must_made geometry c.args.tags.now.made parent.more c.args.level c.args.victim.now.place c.args.victim.now.copy c.requires.below parent.made
+          c.in_ok-write_below.ensures.made) (nodes_wider _ _
           (climb_made (since c.args.tags.now.made c.parent_present.new.tags.made) (since c.args.tags.now.made c.write_below.new.tags.made) refl
           (since_before c.args.tags.now.made parent.more own parent.made c.in_ok-write_below.ensures.made)
           c.args.level c.args.victim.now.place c.args.victim.now.copy
           (since_after c.args.tags.now.made parent.more own parent.made c.in_ok-write_below.ensures.made
           (Node c.args.level c.args.victim.now.place c.args.victim.now.copy) (Contains-push [] (Node c.args.level c.args.victim.now.place c.args.victim.now.copy))))
-          c.in_ok-parent_present.ensures.had.had) c.in_ok-write_below.ensures.orders (λ level index high. unread level index);
+          c.in_ok-parent_present.ensures.had.had)) c.in_ok-write_below.ensures.orders (λ level index high. unread level index);
       unread = λ index. unread c.args.level index ∙ c.in_ok-parent_present.ensures.had.unread index;
     }
 
@@ -380,7 +407,10 @@ make_room-returns-in_default-clause-had g t c =
     subst (λ (v : TreeView). AreNodeCaches v.geometry v.caches) c.self.view_is c.self.invariant in
     record {
       mid = c.args.self.now;
-      above = record { had = nodes_none _ (c.args.level + 1) c.args.self.now (g.B.Bus.history c.args.bus.now); unread = λ index. refl };
+      above = record {
+        had = nodes_none _ (c.args.level + 1) c.args.self.now (g.B.Bus.history c.args.bus.now) (child_not c.args.self.now.geometry c.args.tags.now.made);
+        unread = λ index. refl;
+      };
       room =
           room_here c.args.self.now c.args.level c.args.index (are.each c.args.level c.requires.above c.requires.node.0) c.requires.absent
           (subst (λ (v : TreeView). victim_for (level_cache v.caches c.args.level) c.args.index ≡ None) c.self.view_is (sym c.in_default.ensures.victim));
@@ -410,11 +440,17 @@ pub present-returns-then-touch-clause-had : goal.present-returns-then-touch-clau
 present-returns-then-touch-clause-had g t c =
     let are : AreNodeCaches c.args.self.now.geometry c.args.self.now.caches =
     subst (λ (v : TreeView). AreNodeCaches v.geometry v.caches) c.self.view_is c.self.invariant in
+    let cache = are.each c.args.level c.requires.above c.requires.node.0 in
+    let some : IsSome (node_way c.args.self.now.caches c.args.level c.args.index) =
+    subst (λ (v : TreeView). IsSome (node_way v.caches c.args.level c.args.index)) c.self.view_is (c.if-touch.ensures.held.0 refl) in
     had_one c.args.index
     (climb_here c.args.self.now.geometry c.args.level c.args.index (since c.args.tags.now.made c.args.tags.now.made))
-    (touched_here c.args.self.now (tree_of c.self.inside.root c.touch.new.self) c.args.level (are.each c.args.level c.requires.above c.requires.node.0)
-    (others_as c.self.inside.root c.self.inside.nodes c.touch.new.self c.self.view_is c.args.level c.if-touch.ensures.others) c.args.index
-    (subst (λ (v : TreeView). IsSome (node_way v.caches c.args.level c.args.index)) c.self.view_is (c.if-touch.ensures.held.0 refl))
+    (λ other at must. elim must [
+      | inl here ↦ (here.1, here.2)
+      | inr child ↦ absurd (child_not c.args.self.now.geometry c.args.tags.now.made other at child)
+    ]) (listed_in c.args.self.now c.args.level c.args.index cache some)
+    (touched_here c.args.self.now (tree_of c.self.inside.root c.touch.new.self) c.args.level cache
+    (others_as c.self.inside.root c.self.inside.nodes c.touch.new.self c.self.view_is c.args.level c.if-touch.ensures.others) c.args.index some
     (subst (λ (v : TreeView). level_cache c.touch.new.self.caches c.args.level ≡ with_set (level_cache v.caches c.args.level) c.args.index
     (touched c.args.index (set_at (level_cache v.caches c.args.level) c.args.index))) c.self.view_is c.if-touch.ensures.after))
 
@@ -435,7 +471,12 @@ present-returns-clause-had g t c =
     let read = c.read_in.ensures.climbs.moves in
     let made = c.args.tags.now.made in
     let all = since made c.read_in.new.tags.made in
-    on_ok c.read_in.result c.read_in.ensures.had (had_came _ _ _ _ _ _ _ _ _ _ _ _ (climb_here c.args.self.now.geometry c.args.level c.args.index all)
+    let all_is : all ≡ since made c.make_room.new.tags.made ++ since c.make_room.new.tags.made c.parent_present.new.tags.made =
+    ap (since made) c.read_in.ensures.made ∙ since_joined made room.moves.more parent.more room.moves.made parent.made in
+    on_ok c.read_in.result c.read_in.ensures.had (had_came _ _ _ _ _ _ _ _ _ _ _ _ _ _ _ (climb_here c.args.self.now.geometry c.args.level c.args.index all)
+    geometry (room.geometry ∙ geometry)
+    (λ other at must. must_joined geometry room.geometry c.args.level c.args.index all_is other at must)
+    (λ below. must_parent (room.geometry ∙ geometry) c.args.level c.args.index (since c.make_room.new.tags.made c.parent_present.new.tags.made) below)
     same (unlisted c.args.self.now c.args.level c.args.index cache none) (room_wider _ _
     (λ other at high above. inr (made_wider (since made c.make_room.new.tags.made) all geometry
     (since_first made room.moves.more parent.more read.more room.moves.made parent.made read.made)

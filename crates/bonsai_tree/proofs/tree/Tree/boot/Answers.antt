@@ -1,7 +1,5 @@
-use Rattle.std.proofs.Common.{refl, sym, ◌∙◌, ◌≡◌, [], Option, Some, subst, rules}
-use Rattle.checked_bus.specs.Makes.{Makes}
+use Rattle.std.proofs.Common.{refl, sym, ◌∙◌, ◌≡◌, [], Some, rules}
 use Rattle.checked_bus.proofs.Makes.{makes_not}
-use Rattle.sec_base.specs.declared.stop.MemStop.{MemStop}
 use Rattle.sec_base.specs.declared.stop.MemStop.TheVariants.{NoMemory}
 use Rattle.tag_engine.specs.TagEngine.{tags_of}
 use Rattle.bonsai_tree.proofs.NewTrees.{new_holds}

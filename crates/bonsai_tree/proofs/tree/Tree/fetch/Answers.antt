@@ -1,24 +1,21 @@
-use Rattle.std.proofs.Common.{inl, inr, None, ◌≡◌, ◌+◌, ◌/◌, ◌≤◌, List, length, Option, Some, refl, ap, sym, ◌∙◌, subst, arith, rules, ◌++◌}
+use Rattle.std.proofs.Common.{inl, inr, None, ◌≡◌, ◌/◌, List, length, Some, refl, ap, sym, ◌∙◌, subst, arith, rules, ◌++◌}
 use Rattle.std.specs.List.{Contains}
 use Rattle.std.specs.Result.{result_err}
 use Rattle.sec_base.specs.Geometry.{GeometryView, IsNode, arity}
 use Rattle.sec_base.specs.declared.evidence.Evidence.TheVariants.{Collision}
 use Rattle.sec_base.specs.declared.message.Message.{Message}
 use Rattle.sec_base.specs.declared.place.Place.TheVariants.{Node as node_place}
-use Rattle.sec_base.specs.declared.stop.MemStop.{MemStop}
 use Rattle.sec_base.specs.declared.stop.MemStop.TheVariants.{Tampered}
 use Rattle.sec_base.proofs.Results.{stop_is, was_none}
 use Rattle.bus_model.specs.BusHistory.{BusHistory}
-use Rattle.tag_engine.specs.TagEngine.{TagEngineView, tags_of}
-use Rattle.checked_bus.specs.Makes.{Makes}
+use Rattle.tag_engine.specs.TagEngine.{tags_of}
 use Rattle.bonsai_tree.specs.Climb.{Climbs, NoNode, WritesUp}
 use Rattle.bonsai_tree.specs.Node.{level_blocks}
 use Rattle.bonsai_tree.specs.NodesHad.{since}
-use Rattle.bonsai_tree.specs.Tree.{EndsQuietly, GoesOutFor, HoldsTree, IsFetchPlace}
-use Rattle.bonsai_tree.specs.TreeCall.{TreeCall}
+use Rattle.bonsai_tree.specs.Tree.{EndsQuietly, GoesOutFor, HasChild, HoldsTree, IsFetchPlace}
 use Rattle.bonsai_tree.proofs.Climbs.{unmade_before}
 use Rattle.bonsai_tree.proofs.NodesHad.{had_still}
-use Rattle.bonsai_tree.proofs.NodesJoined.{climb_page, nodes_wider}
+use Rattle.bonsai_tree.proofs.NodesJoined.{climb_page, nodes_fewer, nodes_wider}
 use Rattle.bonsai_tree.proofs.OutFor.{out_kept, out_on}
 use Rattle.bonsai_tree.proofs.PathCalls.{fetched, fetched_accepted, fetched_alone, fetched_block, fetched_by_tag, fetched_checked, fetched_found, fetched_once, fetched_pages, fetched_read, not_from_one, ok_of, page_node, path_more}
 use Rattle.bonsai_tree.proofs.Views.{latest_cached}
@@ -58,17 +55,13 @@ returns-clause-checked g c =
 
 pub returns-clause-parent : goal.returns-clause-parent
 returns-clause-parent g c =
-    ok_of c.read_kept.result (λ going.
-    let inside : 1 ≤ c.parent_present.new.self.geometry.levels = omega (arith, ap (λ (k : GeometryView). k.levels) c.in_ok-parent_present.ensures.climbs.geometry, c.in_ok-parent_present.ensures.some) in
-    latest_cached c.parent_present.new.self 1 (c.args.page / arity c.args.self.now.geometry) c.in_ok-parent_present.ensures.nodes (omega arith) inside
-    (c.in_ok-parent_present.ensures.latest c.in_ok-parent_present.ensures.some))
+    ok_of c.read_kept.result (λ going. c.in_ok-parent_present.ensures.latest c.in_ok-parent_present.ensures.some)
 
 pub returns-clause-read : goal.returns-clause-read
 returns-clause-read g c =
-    let inside : 1 ≤ c.parent_present.new.self.geometry.levels = omega (arith, ap (λ (k : GeometryView). k.levels) c.in_ok-parent_present.ensures.climbs.geometry, c.in_ok-parent_present.ensures.some) in
     λ holds quiet.
     ok_of c.read_kept.result (λ going. fetched_read g.T.Tagger.data_tag_of g.T.Tagger.node_tag_of (own_node g c) c.in_ok-parent_present.ensures.climbs c.kept_tag-tag.ensures c.read_kept.ensures.read holds quiet going
-    (latest_cached c.parent_present.new.self 1 (c.args.page / arity c.args.self.now.geometry) c.in_ok-parent_present.ensures.nodes (omega arith) inside
+    (latest_cached c.parent_present.new.self 1 (c.args.page / arity c.args.self.now.geometry)
     (c.in_ok-parent_present.ensures.latest c.in_ok-parent_present.ensures.some)))
 
 pub returns-in_err-parent_present-clause-no_page : goal.returns-in_err-parent_present-clause-no_page
@@ -182,7 +175,9 @@ returns-clause-called g c =
     (omega (arith, c.in_ok-parent_present.ensures.few, path_more c.args.self.now.geometry.levels, ap length read.made))
     (λ place is. inl (read.tampered place (stop_is c.read_kept.result (Tampered place) is)).0)
     (fetched_found g.T.Tagger.data_tag_of g.T.Tagger.node_tag_of (own_node g c) c.in_ok-parent_present.ensures.climbs c.kept_tag-tag.ensures read)
-    (λ holds quiet going. goes_out g c holds quiet) (λ going. had_still (nodes_wider _ _
+    (λ holds quiet going. goes_out g c holds quiet) (λ going. had_still (nodes_fewer
+    (λ level index child. inr (subst (λ (made : List Message). HasChild c.args.self.now.geometry (since c.args.tags.now.made made) level index) read.made child))
+    (nodes_wider _ _
     (λ level index high. climb_page (since c.args.tags.now.made c.parent_present.new.tags.made) (since c.args.tags.now.made c.read_kept.new.tags.made) refl
     (λ message listed. subst (λ (made : List Message). Contains (since c.args.tags.now.made made) message) (sym read.made) listed)
-    (IsFetchPlace c.args.self.now.geometry c.args.page) c.args.page (inl refl) level index) c.in_ok-parent_present.ensures.had.had) (λ level set. refl) (λ level index high. read.alone level index (λ same. absurd (omega (arith, high, same.0)))))
+    (IsFetchPlace c.args.self.now.geometry c.args.page) c.args.page (inl refl) level index) c.in_ok-parent_present.ensures.had.had)) (λ level set. refl) (λ level index high. read.alone level index (λ same. absurd (omega (arith, high, same.0)))))

@@ -1,16 +1,13 @@
-use Rattle.std.proofs.Common.{◌≡◌, ◌+◌, ◌/◌, false, Option, Some, None, Ok, Err, refl, ap, sym, subst, arith, rules}
+use Rattle.std.proofs.Common.{◌≡◌, ◌+◌, ◌/◌, false, Some, None, refl, ap, subst, rules}
 use Rattle.std.specs.Option.{option_map}
 use Rattle.std.specs.Result.{result_err}
 use Rattle.sec_base.specs.Geometry.{arity}
 use Rattle.sec_base.proofs.Results.{was_none}
-use Rattle.sec_base.specs.declared.stop.MemStop.{MemStop}
 use Rattle.sec_base.specs.declared.stop.MemStop.TheVariants.{NoMemory}
 use Rattle.cache_set.specs.Bringing.{with_new}
 use Rattle.tag_engine.specs.TagEngine.{tags_of}
-use Rattle.checked_bus.specs.Makes.{Makes}
-use Rattle.bonsai_tree.specs.Climb.{Climbs, NoNode, WritesUp}
 use Rattle.bonsai_tree.specs.NodeCache.{AreNodeCaches, copy_of, level_cache}
-use Rattle.bonsai_tree.specs.Tree.{EndsQuietly, HoldsTree, NodeCame, TreeView}
+use Rattle.bonsai_tree.specs.Tree.{HoldsTree, NodeCame, TreeView}
 use Rattle.bonsai_tree.proofs.NodesHad.{put_here}
 use Rattle.bonsai_tree.proofs.NodeCalls.{climbs_put, climbs_read, kept_node}
 use Rattle.bonsai_tree.proofs.OutFor.{kept_at}
@@ -29,8 +26,6 @@ returns-in_err-block-clause-climbs g c =
 
 pub returns-clause-climbs : goal.returns-clause-climbs
 returns-clause-climbs g c =
-    let are : AreNodeCaches c.args.self.now.geometry c.args.self.now.caches =
-    subst (λ (v : TreeView). AreNodeCaches v.geometry v.caches) c.self.view_is c.self.invariant in
     climbs_put g.T.Tagger.data_tag_of g.T.Tagger.node_tag_of c.args.self.now c.requires.node
     (c.kept_tag-tag.ensures c.args.tags.now.made) c.in_ok-block.ensures.read
     (tree_of c.self.inside.root c.put.new.self) c.in_ok-block.block refl
@@ -39,7 +34,7 @@ returns-clause-climbs g c =
     (others_as c.self.inside.root c.self.inside.nodes c.put.new.self c.self.view_is c.args.level c.put.ensures.others)
     (ap (λ o. option_map copy_of o) c.requires.absent) (ap (λ o. option_map copy_of o) c.put.ensures.put)
     (same_as c.self.inside.root c.self.inside.nodes c.put.new.self c.self.view_is c.args.level c.args.index c.put.ensures.same)
-    (λ below. latest_cached c.args.self.now (c.args.level + 1) (c.args.index / arity c.args.self.now.geometry) are (omega arith) (omega arith) (c.requires.parent below))
+    (λ below. latest_cached c.args.self.now (c.args.level + 1) (c.args.index / arity c.args.self.now.geometry) (c.requires.parent below))
     c.in_ok-block.ensures.read.block
 
 -- it came, where the tree fits

@@ -1,4 +1,4 @@
-use Rattle.std.proofs.Common.{◌≡◌, ◌⊎◌, inl, inr, ℕ, ◌+◌, ◌/◌, ◌≤◌, List, [], ◌∷◌, ◌++◌, Option, Some, None, refl, ap, sym, ◌∙◌, subst, arith, rules}
+use Rattle.std.proofs.Common.{◌≡◌, ◌⊎◌, inl, inr, ℕ, ◌/◌, List, [], ◌∷◌, ◌++◌, Some, None, refl, ap, sym, ◌∙◌, subst, arith, rules}
 use Rattle.std.specs.Result.{result_err}
 use Rattle.std.proofs.lemmas.List.Elements.{Contains-push}
 use Rattle.sec_base.specs.Geometry.{GeometryView, IsNode, arity}
@@ -6,23 +6,20 @@ use Rattle.sec_base.specs.declared.message.Message.{Message}
 use Rattle.sec_base.specs.declared.message.Message.TheVariants.{Node}
 use Rattle.sec_base.specs.declared.place.Place.{Place}
 use Rattle.sec_base.specs.declared.place.Place.TheVariants.{Node as node_place}
-use Rattle.sec_base.specs.declared.stop.MemStop.{MemStop}
-use Rattle.sec_base.specs.declared.stop.MemStop.TheVariants.{Tampered, NoMemory}
-use Rattle.sec_base.proofs.Results.{on_err, was_none}
+use Rattle.sec_base.specs.declared.stop.MemStop.TheVariants.{NoMemory}
+use Rattle.sec_base.proofs.Results.{was_none}
 use Rattle.bus_model.specs.BusHistory.{BusHistory}
 use Rattle.tag_engine.specs.TagEngine.{TagEngineView, tags_of}
-use Rattle.checked_bus.specs.Makes.{Makes}
-use Rattle.bonsai_tree.specs.Climb.{Climbs, IsBlockOf}
+use Rattle.bonsai_tree.specs.Climb.{Climbs}
 use Rattle.bonsai_tree.specs.Node.{level_blocks}
 use Rattle.bonsai_tree.specs.NodesHad.{since}
-use Rattle.bonsai_tree.specs.Tree.{GoesOutFor, HoldsTree, IsMarked, IsNodeFrom}
-use Rattle.bonsai_tree.specs.TreeCall.{TreeCall}
+use Rattle.bonsai_tree.specs.Tree.{GoesOutFor, HoldsTree, IsMarked}
 use Rattle.bonsai_tree.proofs.Climbs.{climbs_on, climbs_up, unmade_before}
 use Rattle.bonsai_tree.proofs.LevelBlocks.{blocks_after}
-use Rattle.bonsai_tree.proofs.NodesHad.{had_still}
-use Rattle.bonsai_tree.proofs.NodesJoined.{climb_made, nodes_wider, since_after, since_before}
+use Rattle.bonsai_tree.proofs.NodesHad.{had_still, latest_same}
+use Rattle.bonsai_tree.proofs.NodesJoined.{climb_made, must_made, nodes_fewer, nodes_wider, since_after, since_before}
 use Rattle.bonsai_tree.proofs.OutFor.{out_kept, out_on}
-use Rattle.bonsai_tree.proofs.PathCalls.{page_node, path_more, stop_of_err, updated_read}
+use Rattle.bonsai_tree.proofs.PathCalls.{page_node, path_more, updated_read}
 use Rattle.bonsai_tree.proofs.Views.{latest_cached}
 use Rattle.bonsai_tree.proofs.WrittenBack.{up_climbed}
 use Rattle.bonsai_tree.proofs.TreeCalls.{tree_called}
@@ -42,10 +39,6 @@ whole_refused g c =
     climbs_on g.T.Tagger.data_tag_of g.T.Tagger.node_tag_of
     (climbs_up g.T.Tagger.data_tag_of g.T.Tagger.node_tag_of (omega arith) c.in_ok-parent_present.ensures.climbs) c.in_err-write_below.ensures.climbs
 
-pub returns-in_err-parent_present-clause-refused : goal.returns-in_err-parent_present-clause-refused
-returns-in_err-parent_present-clause-refused g c =
-    on_err c.from_residual.result (inl (c.in_err-parent_present.ensures.climbs.last 0 c.args.page (omega arith)))
-
 pub returns-in_err-parent_present-clause-others : goal.returns-in_err-parent_present-clause-others
 returns-in_err-parent_present-clause-others g c = λ other apart. c.in_err-parent_present.ensures.climbs.last 0 other (omega arith)
 
@@ -64,13 +57,6 @@ returns-in_err-write_below-clause-others g c = λ other apart. c.in_err-write_be
 pub returns-in_err-write_below-clause-beside : goal.returns-in_err-write_below-clause-beside
 returns-in_err-write_below-clause-beside g c = λ other apart. c.in_err-write_below.ensures.beside other apart ∙ c.in_ok-parent_present.ensures.climbs.written 0 other (omega arith)
 
-pub returns-in_err-write_below-clause-refused : goal.returns-in_err-write_below-clause-refused
-returns-in_err-write_below-clause-refused g c =
-    on_err c.from_residual-in_err-write_below.result (elim c.in_err-write_below.ensures.refused [
-      | inl same ↦ inl (same ∙ c.in_ok-parent_present.ensures.climbs.last 0 c.args.page (omega arith))
-      | inr own ↦ inr own
-    ])
-
 pub returns-clause-others : goal.returns-clause-others
 returns-clause-others g c = λ other apart. c.in_ok-write_below.ensures.others other apart ∙ c.in_ok-parent_present.ensures.climbs.last 0 other (omega arith)
 
@@ -79,15 +65,25 @@ returns-clause-beside g c = λ other apart. c.in_ok-write_below.ensures.beside o
 
 pub returns-clause-read : goal.returns-clause-read
 returns-clause-read g c =
-    let inside : 1 ≤ c.parent_present.new.self.geometry.levels = omega (arith, ap (λ (k : GeometryView). k.levels) c.in_ok-parent_present.ensures.climbs.geometry, c.in_ok-parent_present.ensures.some) in
     updated_read g.T.Tagger.data_tag_of g.T.Tagger.node_tag_of c.write_below.new.tags c.in_ok-parent_present.ensures.climbs c.in_ok-write_below.ensures.climbs.moves.reads c.in_ok-write_below.ensures.quiet
-    (latest_cached c.parent_present.new.self 1 (c.args.page / arity c.args.self.now.geometry) c.in_ok-parent_present.ensures.nodes (omega arith) inside
+    (latest_cached c.parent_present.new.self 1 (c.args.page / arity c.args.self.now.geometry)
     (c.in_ok-parent_present.ensures.latest c.in_ok-parent_present.ensures.some))
 
 pub returns-clause-parent : goal.returns-clause-parent
 returns-clause-parent g c =
     subst (λ (k : GeometryView). IsMarked c.write_below.new.self 1 (c.args.page / arity k)) c.in_ok-parent_present.ensures.climbs.geometry
     c.in_ok-write_below.ensures.marked
+
+pub returns-clause-latest : goal.returns-clause-latest
+returns-clause-latest g c =
+    let before = c.in_ok-parent_present.ensures.nodes in
+    let after = c.in_ok-write_below.ensures.climbs.nodes before in
+    let levels : c.parent_present.new.self.geometry.levels ≡ c.args.self.now.geometry.levels = ap (λ (k : GeometryView). k.levels) c.in_ok-parent_present.ensures.climbs.geometry in
+    let levels' : c.write_below.new.self.geometry.levels ≡ c.parent_present.new.self.geometry.levels = ap (λ (k : GeometryView). k.levels) c.in_ok-write_below.ensures.climbs.geometry in
+    let some = c.in_ok-parent_present.ensures.some in
+    latest_same c.parent_present.new.self c.write_below.new.self 1 (c.args.page / arity c.args.self.now.geometry)
+    (before.each 1 (omega arith) (omega (arith, levels, some))) (after.each 1 (omega arith) (omega (arith, levels, levels', some)))
+    c.in_ok-write_below.ensures.orders (c.in_ok-parent_present.ensures.latest some)
 
 -- which messages of pages' blocks were made
 pub returns-in_err-parent_present-clause-one_at_most : goal.returns-in_err-parent_present-clause-one_at_most
@@ -232,12 +228,14 @@ returns-clause-called g c =
     (omega (arith, c.in_ok-parent_present.ensures.once, c.in_ok-write_below.ensures.once, path_more c.args.self.now.geometry.levels))
     (omega (arith, c.in_ok-parent_present.ensures.few, c.in_ok-write_below.ensures.few, path_more c.args.self.now.geometry.levels))
     (λ place is. absurd (cc)) (λ quiet evidence is. c.in_ok-parent_present.ensures.climbs.found quiet evidence (sym c.in_ok-write_below.ensures.quiet ∙ is))
-    (λ holds quiet going. goes_out g c holds quiet) (λ going. had_still (nodes_wider _ _
+    (λ holds quiet going. goes_out g c holds quiet) (λ going. had_still (nodes_fewer
+    (must_made geometry made parent.more 0 c.args.page c.args.block.now c.in_ok-parent_present.ensures.some parent.made c.in_ok-write_below.ensures.made)
+    (nodes_wider _ _
     (λ level index high may. inr (climb_made (since made c.parent_present.new.tags.made) (since made c.write_below.new.tags.made) refl
     (since_before made parent.more own parent.made c.in_ok-write_below.ensures.made) 0 c.args.page c.args.block.now
     (since_after made parent.more own parent.made c.in_ok-write_below.ensures.made
     (Node 0 c.args.page c.args.block.now) (Contains-push [] (Node 0 c.args.page c.args.block.now))) level index high may))
-    c.in_ok-parent_present.ensures.had.had) c.in_ok-write_below.ensures.orders (λ level index high. ap (λ (f : Place → ℕ). f (node_place level index)) c.in_ok-write_below.ensures.reads))
+    c.in_ok-parent_present.ensures.had.had)) c.in_ok-write_below.ensures.orders (λ level index high. ap (λ (f : Place → ℕ). f (node_place level index)) c.in_ok-write_below.ensures.reads))
 
 pub returns-clause-one_at_most : goal.returns-clause-one_at_most
 returns-clause-one_at_most g c = inr (returns-clause-one_page g c)
