@@ -33,9 +33,6 @@ pub ok_of : {A P : Type 0} (result : Result A MemStop) → (result_err result �
 ok_of (Ok value) fact = fact refl
 ok_of (Err stop) fact = tt
 
-pub stop_of_err : {A : Type 0} (result : Result A MemStop) (stop : MemStop) → result ≡ Err stop → result_err result ≡ Some stop
-stop_of_err {A} result stop is = ap (λ (r : Result A MemStop). result_err r) is
-
 -- a page's node is not above level 0
 pub not_from_one : (geometry : GeometryView) (page : ℕ) (place : Place) → place ≡ node_place 0 page → IsNodeFrom geometry 1 place → ⊥
 not_from_one geometry page place is from =

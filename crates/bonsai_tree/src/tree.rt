@@ -93,11 +93,11 @@ impl Tree {
         })
     }
 
-    /// The counter block of a page: the nodes above it are had from the top down, each from its copy or from its place, where
-    /// it is checked against the tag that its parent keeps, the top node against the root register; a node of which no tag is
-    /// kept is zeros, without an access. A copy that goes out for another is written first, if it was changed, and its tag is
-    /// put into its parent, which is had for that. It is refused as tampering of the first node that has another tag, where
-    /// nothing more is read, and out of memory.
+    /// The counter block of a page. The nodes above it are had first, those up to the lowest one with a copy, from there down:
+    /// each that has none is read from its place and checked against the tag that its parent keeps, the top node against the
+    /// root register; a node of which no tag is kept is zeros, without an access. A copy that goes out for another is written
+    /// first, if it was changed, and its tag is put into its parent, which is had for that. It is refused as tampering of the
+    /// first node that has another tag, where nothing more is read, and out of memory.
     pub fn fetch<B: Bus, T: Tagger>(
         &mut self,
         bus: &mut B,
