@@ -1,9 +1,9 @@
-use Rattle.std.proofs.Common.{◌≡◌, ◌≢◌, inl, inr, ◌<◌, ℕ, List, Option, Some, None, Ok, Err, false, refl, ap, sym, ◌∙◌, subst, arith, rules}
+use Rattle.std.proofs.Common.{◌≡◌, ◌≢◌, inl, inr, ◌<◌, ◌/◌, ℕ, List, Option, Some, None, Ok, Err, false, refl, ap, sym, ◌∙◌, subst, arith, rules}
 use Rattle.std.specs.List.{Contains}
 use Rattle.std.specs.Option.{option_map}
 use Rattle.std.specs.Result.{result_err}
 use Rattle.std.proofs.lemmas.Option.{none-some}
-use Rattle.sec_base.specs.Geometry.{GeometryView, page_count}
+use Rattle.sec_base.specs.Geometry.{GeometryView, arity, page_count}
 use Rattle.sec_base.specs.declared.evidence.Evidence.TheVariants.{Collision}
 use Rattle.sec_base.specs.declared.message.Message.{Message}
 use Rattle.sec_base.specs.declared.place.Place.TheVariants.{Node as node_place}
@@ -23,6 +23,7 @@ use Rattle.bonsai_tree.proofs.Climbs.{unmade_before}
 use Rattle.bonsai_tree.proofs.Nodes.{above_none, same_tags}
 use Rattle.bonsai_tree.proofs.PathCalls.{not_from_one}
 use Rattle.bonsai_tree.proofs.TreeMakes.{accesses_of}
+use Rattle.bonsai_tree.proofs.Views.{latest_cached}
 use Rattle.counter_cache.specs.Counters.{AreBlocks, AreCopies, CameFrom, CountersView, OnlyLeavingIsMade, cached_block, cached_pages}
 use Rattle.counter_cache.specs.Having.{Has}
 use Rattle.counter_cache.specs.HadCounters.{BlockHad}
@@ -229,7 +230,7 @@ returns-clause-had g c =
           ]);
       accepted = λ quiet made_at bytes tag is. refl;
       hit = λ cached. absurd (uncached cached);
-      parent = λ outside goes. rw room.tree.geometry at f.parent;
+      parent = λ outside goes. latest_cached c.fetch.new.self 1 (c.args.page / arity c.self.inside.tree.geometry) (rw room.tree.geometry at f.parent);
       path = λ holds quiet outside goes.
           let still : c.make_room.new.tags.evidence ≡ None = was_none c.make_room.new.tags.evidence c.fetch.new.tags.evidence f.called.steps.moves.evidence quiet in
           path_on c.self.inside.tree c.self-2.inside.tree c.args.page c.args.tags.now.made c.make_room.new.tags.made (g.B.Bus.history c.args.bus.now) (g.B.Bus.history c.make_room.new.bus) (g.B.Bus.history c.fetch.new.bus)
