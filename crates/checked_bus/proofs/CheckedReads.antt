@@ -1,6 +1,7 @@
 -- What a checked read makes of a bus and a tag engine.
 use Rattle.std.proofs.Common.{◌≡◌, ◌≢◌, ℕ, ◌<◌, inl, inr, true, List, [], ◌∷◌, ◌++◌, length, take, drop, Option, Some, None, Contains, Result, Ok, Err, refl, ap, sym, ◌∙◌, subst, arith, length-append}
 use Rattle.std.specs.Option.{option_or}
+use Rattle.std.specs.Prelude.{IfOk}
 use Rattle.std.specs.Result.{result_err}
 use Rattle.std.proofs.lemmas.List.{take_at, drop_at, take_all}
 use Rattle.std.proofs.lemmas.Option.{same_Some}
@@ -10,7 +11,6 @@ use Rattle.sec_base.specs.Evidence.{sealed_bytes, sealed_of, LineFails}
 use Rattle.sec_base.specs.LastMessage.{last_pair, data_pairs}
 use Rattle.sec_base.specs.declared.counter.Counter.{Counter}
 use Rattle.sec_base.specs.declared.evidence.Evidence.{Evidence}
-use Rattle.sec_base.specs.declared.evidence.Evidence.TheVariants.{Forgery}
 use Rattle.sec_base.specs.declared.message.Message.{Message}
 use Rattle.sec_base.specs.declared.message.Message.TheVariants.{Line}
 use Rattle.sec_base.specs.declared.place.Place.{Place}
@@ -18,8 +18,8 @@ use Rattle.sec_base.specs.declared.place.Place.TheVariants.{Line as line_place}
 use Rattle.sec_base.specs.declared.sealed.Sealed.{Sealed}
 use Rattle.sec_base.specs.declared.stop.MemStop.{MemStop}
 use Rattle.sec_base.specs.declared.stop.MemStop.TheVariants.{Tampered, Spent, NoMemory}
-use Rattle.bus_model.specs.Access.{Read}
-use Rattle.bus_model.specs.BusHistory.{BusHistory, after_answer}
+use Rattle.bus_model.specs.Access.{Access, Read, CameBy}
+use Rattle.bus_model.specs.BusHistory.{BusHistory, after_answer, after_read}
 use Rattle.bus_model.specs.FirstLie.{AccountsForLies, HonestOrCaught, IsOfFirstLie}
 use Rattle.bus_model.proofs.Steps.{answered}
 use Rattle.sec_base.specs.Message.{data_bytes}
@@ -27,14 +27,15 @@ use Rattle.tag_engine.specs.Tag.{engine_tag}
 use Rattle.tag_engine.specs.TagEngine.{TagEngineView, forgery_of, tags_of}
 use Rattle.tag_engine.proofs.Marks.{marked_long}
 use Rattle.tag_engine.proofs.Forgeries.{known}
-use Rattle.checked_bus.specs.Checks.{after_line, Passed, Failed, IsCheckedRead}
+use Rattle.checked_bus.specs.Checks.{Passed, Failed, IsCheckedRead}
 use Rattle.checked_bus.specs.SealedLine.{sealed_line}
-use Rattle.checked_bus.specs.Makes.{IsShownIn, ReadsPlace}
-use Rattle.checked_bus.specs.Steps.{IsAccounted, IsCurrent, Moves, ReadsOnce, SamePlace}
+use Rattle.checked_bus.specs.Makes.{IsShownIn, Makes, ReadsLine}
+use Rattle.checked_bus.specs.Steps.{IsAccounted, IsCurrent}
 use Rattle.checked_bus.proofs.LineMessages.{last_made, last_pair-some}
 use Rattle.checked_bus.proofs.FalseAnswers.{lie_comes, lie_rises, first_lie_stays}
-use Rattle.checked_bus.proofs.Evidences.{shown_is, first_stays, by_evidence, none_found}
-use Rattle.checked_bus.proofs.PlaceReads.{IsRead, answer_accounted, answer_makes, nothing_makes, place_moves, place_once, place_others, told_last}
+use Rattle.checked_bus.proofs.Evidences.{shown_is, first_stays, by_evidence, none_found, or_none}
+use Rattle.checked_bus.proofs.PlaceReads.{IsRead, ReadsOnce, answer_accounted, answer_makes, nothing_makes, place_first, place_once, place_others, told, told_last, untold}
+use Rattle.checked_bus.proofs.Steps.{SamePlace}
 
 -- the tags of lines are 16 bytes long
 pub line_tags_long : {T : Type 0} (data_tag_of node_tag_of : T → List ℕ → List ℕ) (engine : TagEngineView T) (line : ℕ) (counter : Counter) →
@@ -105,23 +106,29 @@ accounted_after place history history' engine engine' stop tag_of used first bef
     (nothing_accounted tag_of used history history' engine engine' same unchanged was)
 
 -- A read that there was no memory for is no access
-pub refused_makes : {T : Type 0} (tag_of : Message → List ℕ) (expected : List (ℕ × Counter) → Type 0) (place : Place) (history history' : BusHistory)
-    (engine engine' : TagEngineView T) (result : Result (List ℕ) MemStop) → result ≡ Err NoMemory → history' ≡ history → engine' ≡ engine →
-    ReadsPlace tag_of expected place history engine history' engine' [] (result_err result)
-refused_makes {T} tag_of expected place history history' engine engine' result is same unchanged =
+pub nothing_read : {T : Type 0} (tag_of : Message → List ℕ) (expected : List (ℕ × Counter) → Type 0) (history history' : BusHistory)
+    (engine engine' : TagEngineView T) (accesses : List Access) → CameBy history accesses history' → accesses ≡ [] → engine' ≡ engine →
+    Makes tag_of expected history engine history' engine' accesses (Some NoMemory)
+nothing_read {T} tag_of expected history history' engine engine' accesses came none unchanged =
+    let same : history' ≡ history = untold history history' accesses came none in
     let evidence_is : engine'.evidence ≡ engine.evidence = ap (λ (e : TagEngineView T). e.evidence) unchanged in
-    subst (λ (r : Result (List ℕ) MemStop). ReadsPlace tag_of expected place history engine history' engine' [] (result_err r)) (sym is) (record {
-      once = refl;
-      makes = nothing_makes tag_of expected history history' engine engine' (Some NoMemory) same unchanged (λ place is. cc) (record {
-        honest = λ used expects was. nothing_accounted tag_of used history history' engine engine' same unchanged was;
-        found = λ used expects quiet. inl (evidence_is ∙ quiet, λ place is. cc);
-        first = λ evidence is. evidence_is ∙ is;
-      });
-    })
+    subst (λ (xs : List Access). Makes tag_of expected history engine history' engine' xs (Some NoMemory)) (sym none)
+    (nothing_makes tag_of expected history history' engine engine' (Some NoMemory) same unchanged (λ place is. cc) (record {
+      honest = λ used expects was. nothing_accounted tag_of used history history' engine engine' same unchanged was;
+      found = λ used expects quiet. inl (evidence_is ∙ quiet, λ place is. cc);
+      first = λ evidence is. evidence_is ∙ is;
+    }))
+
+-- the place of a line answered these bytes
+abbrev after_line : ℕ → Sealed → BusHistory → BusHistory
+after_line line sealed history = after_read (line_place line) (sealed_bytes sealed) history
 
 module _ {T : Type 0} (tag_of : Message → List ℕ) (line : ℕ) (counter : Counter) (history history' : BusHistory)
-    (engine engine' : TagEngineView T) where
-  read_is : (result : Result (List ℕ) MemStop) → IsCheckedRead tag_of line counter history history' engine engine' result →
+    (engine engine' : TagEngineView T) (accesses : List Access) (came : CameBy history accesses history') where
+  told_line : (sealed : Sealed) → accesses ≡ Read (line_place line) (sealed_bytes sealed) ∷ [] → history' ≡ after_line line sealed history
+  told_line sealed is = told history history' accesses (line_place line) (sealed_bytes sealed) came is
+
+  read_is : (result : Result (List ℕ) MemStop) → IsCheckedRead tag_of line counter accesses engine engine' result →
       IsRead (line_place line) history history' engine engine' (result_err result)
   read_is (Ok cipher) passed =
       let shown : Option Evidence = forgery_of engine.made line counter passed.sealed true in
@@ -129,52 +136,24 @@ module _ {T : Type 0} (tag_of : Message → List ℕ) (line : ℕ) (counter : Co
         record {
           bytes = sealed_bytes passed.sealed;
           shown = option_or engine.evidence shown;
-          answered = passed.answered;
+          answered = told_line passed.sealed passed.answered;
           engine_is = passed.checked;
           first = first_stays engine.evidence shown;
         },
         λ none. cc,
       )
   read_is (Err (Spent page)) read = absurd read
-  read_is (Err NoMemory) read = inr (read.0, read.1, refl)
+  read_is (Err NoMemory) read = inr (untold history history' accesses came read.0, read.1, refl)
   read_is (Err (Tampered place)) read = inl (
     record {
       bytes = sealed_bytes read.1.sealed;
       shown = engine.evidence;
-      answered = read.1.answered;
+      answered = told_line read.1.sealed read.1.answered;
       engine_is = read.1.unchanged;
       first = λ evidence is. is;
     },
     λ none. cc,
   )
-
-  pub read_moves : (result : Result (List ℕ) MemStop) → IsCheckedRead tag_of line counter history history' engine engine' result →
-      Moves history engine history' engine'
-  read_moves result read = place_moves (line_place line) history history' engine engine' (result_err result) (read_is result read)
-
-  -- It is one read
-  pub read_once : (result : Result (List ℕ) MemStop) → IsCheckedRead tag_of line counter history history' engine engine' result →
-      ReadsOnce (line_place line) history engine history' engine' (result_err result)
-  read_once result read = place_once (line_place line) history history' engine engine' (result_err result) (read_is result read)
-
-  -- No other place is touched
-  pub read_others : (result : Result (List ℕ) MemStop) (other : Place) → other ≢ line_place line →
-      IsCheckedRead tag_of line counter history history' engine engine' result → SamePlace other history engine.made history' engine'.made
-  read_others result other differs read = place_others (line_place line) history history' engine engine' (result_err result) other differs (read_is result read)
-
-  -- What passed though it was never tagged is answered
-  pub read_accepted : (cipher : List ℕ) (at : ℕ) (under : Counter) (sealed : Sealed) (made_count : ℕ) →
-      Passed tag_of line counter history history' engine engine' cipher → engine.evidence ≡ None →
-      engine'.evidence ≡ Some (Forgery at under sealed made_count) → (at ≡ line) × (under ≡ counter) × (cipher ≡ sealed.cipher)
-  read_accepted cipher at under sealed made_count passed quiet shown =
-      let before : option_or engine.evidence (forgery_of engine.made line counter passed.sealed true) ≡ forgery_of engine.made line counter passed.sealed true =
-      ap (λ (o : Option Evidence). option_or o (forgery_of engine.made line counter passed.sealed true)) quiet in
-      let is : forgery_of engine.made line counter passed.sealed true ≡ Some (Forgery at under sealed made_count) =
-      sym before ∙ sym (ap (λ (e : TagEngineView T). e.evidence) passed.checked) ∙ shown in
-      let same : Forgery at under sealed made_count ≡ Forgery line counter passed.sealed (length engine.made) =
-      (shown_is engine.made line counter passed.sealed (Forgery at under sealed made_count) is).0 in
-      let sealed_is : sealed ≡ passed.sealed = cc in
-      (cc, cc, passed.given ∙ ap (λ (s : Sealed). s.cipher) (sym sealed_is))
 
   -- Under a line's last counter
 
@@ -229,9 +208,9 @@ module _ {T : Type 0} (tag_of : Message → List ℕ) (line : ℕ) (counter : Co
         (subst (λ (y : List ℕ). LineFails tag_of used line (record { cipher = sealed.cipher; tag = y })) (sym tag_is) fails)
 
     -- it comes where an answer was false
-    pub tampered_lied : Failed tag_of line counter history history' engine engine' → Rose history.lies history'.lies
+    pub tampered_lied : Failed tag_of line counter accesses engine engine' → Rose history.lies history'.lies
     tampered_lied failed =
-        subst (λ (t : BusHistory). Rose history.lies t.lies) (sym failed.answered)
+        subst (λ (t : BusHistory). Rose history.lies t.lies) (sym (told_line failed.sealed failed.answered))
         (lie_rises history (line_place line) (sealed_bytes failed.sealed) (failed_differs failed.sealed failed.long failed.tag_long failed.untagged))
 
     failed_answers : (sealed : Sealed) → length sealed.cipher ≡ 64 → length sealed.tag ≡ 16 → sealed.tag ≢ tag_of (Line line counter sealed.cipher) →
@@ -281,14 +260,14 @@ module _ {T : Type 0} (tag_of : Message → List ℕ) (line : ℕ) (counter : Co
         subst (λ (t : BusHistory). Rose history.lies t.lies) (sym answered)
         (lie_rises history (line_place line) (sealed_bytes sealed) (forged_differs sealed long tagged is.1))
 
-    pub shown_lied : (result : Result (List ℕ) MemStop) → IsCheckedRead tag_of line counter history history' engine engine' result →
+    pub shown_lied : (result : Result (List ℕ) MemStop) → IsCheckedRead tag_of line counter accesses engine engine' result →
         engine.evidence ≡ None → engine'.evidence ≢ None → Rose history.lies history'.lies
     shown_lied (Ok cipher) passed quiet shown =
         let is : engine'.evidence ≡ forgery_of engine.made line counter passed.sealed true =
         ap (λ (e : TagEngineView T). e.evidence) passed.checked
         ∙ ap (λ (o : Option Evidence). option_or o (forgery_of engine.made line counter passed.sealed true)) quiet in
         by_evidence (forgery_of engine.made line counter passed.sealed true) (λ none. absurd (shown (is ∙ none)))
-        (λ evidence some. forged_lied passed.sealed evidence passed.answered passed.long passed.tagged some)
+        (λ evidence some. forged_lied passed.sealed evidence (told_line passed.sealed passed.answered) passed.long passed.tagged some)
     shown_lied (Err (Spent page)) read quiet shown = absurd read
     shown_lied (Err NoMemory) read quiet shown = absurd (shown (ap (λ (e : TagEngineView T). e.evidence) read.1 ∙ quiet))
     shown_lied (Err (Tampered place)) read quiet shown = absurd (shown (ap (λ (e : TagEngineView T). e.evidence) read.1.unchanged ∙ quiet))
@@ -316,11 +295,11 @@ module _ {T : Type 0} (tag_of : Message → List ℕ) (line : ℕ) (counter : Co
       shown = λ evidence is. first_lie_stays history engine.made (line_place line) (sealed_bytes sealed) evidence (account.shown evidence is);
     }
 
-    pub read_accounted : (result : Result (List ℕ) MemStop) → IsCheckedRead tag_of line counter history history' engine engine' result →
+    pub read_accounted : (result : Result (List ℕ) MemStop) → IsCheckedRead tag_of line counter accesses engine engine' result →
         IsAccounted tag_of used engine.made history None engine.evidence →
         IsAccounted tag_of used engine'.made history' (result_err result) engine'.evidence
     read_accounted (Ok cipher) passed was =
-        subst (λ (t : BusHistory). IsAccounted tag_of used engine'.made t None engine'.evidence) (sym passed.answered)
+        subst (λ (t : BusHistory). IsAccounted tag_of used engine'.made t None engine'.evidence) (sym (told_line passed.sealed passed.answered))
         (subst (λ (made : List Message). IsAccounted tag_of used made (after_line line passed.sealed history) None engine'.evidence)
         (sym (ap (λ (e : TagEngineView T). e.made) passed.checked)) (record {
           account = subst (λ (o : Option Evidence). AccountsForLies tag_of used engine.made (after_line line passed.sealed history) (tampered None) o)
@@ -329,10 +308,10 @@ module _ {T : Type 0} (tag_of : Message → List ℕ) (line : ℕ) (counter : Co
           genuine = passed.genuine;
         }))
     read_accounted (Err (Spent page)) read was = absurd read
-    read_accounted (Err NoMemory) read was = nothing_accounted tag_of used history history' engine engine' read.0 read.1 was
+    read_accounted (Err NoMemory) read was = nothing_accounted tag_of used history history' engine engine' (untold history history' accesses came read.0) read.1 was
     read_accounted (Err (Tampered place)) read was =
         subst (λ (p : Place). IsAccounted tag_of used engine'.made history' (Some (Tampered p)) engine'.evidence) (sym read.0)
-        (subst (λ (t : BusHistory). IsAccounted tag_of used engine'.made t (Some (Tampered (line_place line))) engine'.evidence) (sym read.1.answered)
+        (subst (λ (t : BusHistory). IsAccounted tag_of used engine'.made t (Some (Tampered (line_place line))) engine'.evidence) (sym (told_line read.1.sealed read.1.answered))
         (subst (λ (e : TagEngineView T). IsAccounted tag_of used e.made (after_line line read.1.sealed history) (Some (Tampered (line_place line))) e.evidence)
         (sym read.1.unchanged) (record {
           account = failed_accounted read.1.sealed read.1.long read.1.tag_long read.1.untagged was.account;
@@ -343,14 +322,14 @@ module _ {T : Type 0} (tag_of : Message → List ℕ) (line : ℕ) (counter : Co
 
   pub read_honest : ((cipher : List ℕ) → length (tag_of (Line line counter cipher)) ≡ 16) → (used : List (ℕ × Counter)) →
       (engine.evidence ≡ None → IsCurrent tag_of used engine.made history.written line counter) → (result : Result (List ℕ) MemStop) →
-      IsCheckedRead tag_of line counter history history' engine engine' result → IsAccounted tag_of used engine.made history None engine.evidence →
+      IsCheckedRead tag_of line counter accesses engine engine' result → IsAccounted tag_of used engine.made history None engine.evidence →
       IsAccounted tag_of used engine'.made history' (result_err result) engine'.evidence
   read_honest tag_long used current result read was =
       by_evidence engine.evidence (λ none. read_accounted tag_long used (current none) result read was)
       (λ first before. accounted_after (line_place line) history history' engine engine' (result_err result) tag_of used first before (read_is result read) was)
 
   -- Evidence is of what was read
-  read_shown : {cipher : List ℕ} (passed : Passed tag_of line counter history history' engine engine' cipher) (evidence : Evidence) → engine.evidence ≡ None →
+  read_shown : {cipher : List ℕ} (passed : Passed tag_of line counter accesses engine engine' cipher) (evidence : Evidence) → engine.evidence ≡ None →
       engine'.evidence ≡ Some evidence → IsShownIn (length engine.made) (Read (line_place line) (sealed_bytes passed.sealed) ∷ []) evidence
   read_shown passed evidence quiet is =
       let shown : forgery_of engine.made line counter passed.sealed true ≡ Some evidence =
@@ -359,34 +338,78 @@ module _ {T : Type 0} (tag_of : Message → List ℕ) (line : ℕ) (counter : Co
       subst (λ (e : Evidence). IsShownIn (length engine.made) (Read (line_place line) (sealed_bytes passed.sealed) ∷ []) e)
       (sym (shown_is engine.made line counter passed.sealed evidence shown).0) (record { before = []; after = []; is = refl; count = omega arith })
 
+  -- What is answered was tagged under the counter, or there is evidence
+  known_by : (result : Result (List ℕ) MemStop) → IsCheckedRead tag_of line counter accesses engine engine' result →
+      IfOk result (λ cipher. (length cipher ≡ 64) × (engine'.evidence ≡ None → Contains engine.made (Line line counter cipher)))
+  known_by (Ok cipher) passed = (
+    ap length passed.given ∙ passed.long,
+    λ quiet.
+        let none : forgery_of engine.made line counter passed.sealed true ≡ None =
+        or_none engine.evidence (forgery_of engine.made line counter passed.sealed true) (sym (ap (λ (e : TagEngineView T). e.evidence) passed.checked) ∙ quiet) in
+        subst (λ (c : List ℕ). Contains engine.made (Line line counter c)) (sym passed.given) (known engine.made line counter passed.sealed none),
+  )
+  known_by (Err stop) read = tt
+
   -- Its accesses
 
-  pub passed_makes : line < line_count engine.geometry → ((cipher : List ℕ) → length (tag_of (Line line counter cipher)) ≡ 16) → {cipher : List ℕ}
-      (passed : Passed tag_of line counter history history' engine engine' cipher) →
-      ReadsPlace tag_of (λ used. IsCurrent tag_of used engine.made history.written line counter) (line_place line) history engine history' engine'
-      (Read (line_place line) (sealed_bytes passed.sealed) ∷ []) None
-  passed_makes inside tag_long {cipher} passed = record {
-    once = record { bytes = sealed_bytes passed.sealed; is = refl };
-    makes = answer_makes tag_of (λ used. IsCurrent tag_of used engine.made history.written line counter) history history' engine engine' None
+  abbrev expects_line : List (ℕ × Counter) → Type 0
+  expects_line used = IsCurrent tag_of used engine.made history.written line counter
+
+  pub line_reads : line < line_count engine.geometry → ((cipher : List ℕ) → length (tag_of (Line line counter cipher)) ≡ 16) → (result : Result (List ℕ) MemStop) →
+      IsCheckedRead tag_of line counter accesses engine engine' result → ReadsLine tag_of line counter history engine history' engine' accesses result
+  line_reads inside tag_long (Ok cipher) passed = record {
+    read = passed;
+    makes = subst (λ (xs : List Access). Makes tag_of expects_line history engine history' engine' xs None) (sym passed.answered)
+        (answer_makes tag_of expects_line history history' engine engine' None
         (line_place line) (sealed_bytes passed.sealed) (option_or engine.evidence (forgery_of engine.made line counter passed.sealed true))
-        passed.answered passed.checked inside (λ evidence quiet is. read_shown passed evidence quiet is) (λ place is. absurd (cc)) (record {
+        (told_line passed.sealed passed.answered) passed.checked inside (λ evidence quiet is. read_shown passed evidence quiet is) (λ place is. absurd (cc)) (record {
           honest = λ used expects was. read_honest tag_long used expects (Ok cipher) passed was;
           found = λ used expects quiet. none_found engine'.evidence None (λ place is. cc) (shown_lied tag_long used expects (Ok cipher) passed quiet);
-          first = (read_moves (Ok cipher) passed).evidence;
-        });
+          first = place_first (line_place line) history history' engine engine' None (read_is (Ok cipher) passed);
+        }));
   }
-
-  pub failed_makes : line < line_count engine.geometry → ((cipher : List ℕ) → length (tag_of (Line line counter cipher)) ≡ 16) → (failed : Failed tag_of line counter history history' engine engine') →
-      ReadsPlace tag_of (λ used. IsCurrent tag_of used engine.made history.written line counter) (line_place line) history engine history' engine'
-      (Read (line_place line) (sealed_bytes failed.sealed) ∷ []) (Some (Tampered (line_place line)))
-  failed_makes inside tag_long failed = record {
-    once = (record { bytes = sealed_bytes failed.sealed; is = refl }, refl);
-    makes = answer_makes tag_of (λ used. IsCurrent tag_of used engine.made history.written line counter) history history' engine engine'
-        (Some (Tampered (line_place line))) (line_place line) (sealed_bytes failed.sealed) engine.evidence failed.answered failed.unchanged inside
+  line_reads inside tag_long (Err (Tampered place)) read = record {
+    read = read;
+    makes =
+        let failed = read.1 in
+        subst (λ (xs : List Access). Makes tag_of expects_line history engine history' engine' xs (Some (Tampered place))) (sym failed.answered)
+        (answer_makes tag_of expects_line history history' engine engine' (Some (Tampered place))
+        (line_place line) (sealed_bytes failed.sealed) engine.evidence (told_line failed.sealed failed.answered) failed.unchanged inside
         (λ evidence quiet is. let same : engine'.evidence ≡ engine.evidence = ap (λ (e : TagEngineView T). e.evidence) failed.unchanged in absurd (cc))
-        (λ other is. told_last (line_place line) other (Tampered (line_place line)) (sealed_bytes failed.sealed) refl is) (record {
-          honest = λ used expects was. read_honest tag_long used expects (Err (Tampered (line_place line))) (refl, failed) was;
+        (λ other is. told_last (line_place line) other (Tampered place) (sealed_bytes failed.sealed) (ap (λ (p : Place). Tampered p) read.0) is) (record {
+          honest = λ used expects was. read_honest tag_long used expects (Err (Tampered place)) read was;
           found = λ used expects quiet. inr (tampered_lied tag_long used expects failed);
           first = λ evidence is. ap (λ (e : TagEngineView T). e.evidence) failed.unchanged ∙ is;
-        });
+        }));
   }
+  line_reads inside tag_long (Err (Spent page)) read = absurd read
+  line_reads inside tag_long (Err NoMemory) read = record {
+    read = read;
+    makes = nothing_read tag_of expects_line history history' engine engine' accesses came read.0 read.1;
+  }
+
+-- What follows of a checked read
+
+module _ {T : Type 0} {tag_of : Message → List ℕ} {line : ℕ} {counter : Counter} {history history' : BusHistory} {engine engine' : TagEngineView T}
+    {accesses : List Access} {result : Result (List ℕ) MemStop} (reads : ReadsLine tag_of line counter history engine history' engine' accesses result) where
+  line_is : IsRead (line_place line) history history' engine engine' (result_err result)
+  line_is = read_is tag_of line counter history history' engine engine' accesses reads.makes.came result reads.read
+
+  -- it is one read
+  pub line_once : ReadsOnce (line_place line) history engine history' engine' (result_err result)
+  line_once = place_once (line_place line) history history' engine engine' (result_err result) line_is
+
+  -- no other place is touched
+  pub line_others : (other : Place) → other ≢ line_place line → SamePlace other history engine.made history' engine'.made
+  line_others other apart = place_others (line_place line) history history' engine engine' (result_err result) other apart line_is
+
+  -- what is answered was tagged under the counter, or there is evidence
+  pub line_known : IfOk result (λ cipher. (length cipher ≡ 64) × (engine'.evidence ≡ None → Contains engine.made (Line line counter cipher)))
+  line_known = known_by tag_of line counter history history' engine engine' accesses reads.makes.came result reads.read
+
+  -- tampering comes only of this line
+  pub line_tampered : (place : Place) → result ≡ Err (Tampered place) → place ≡ line_place line
+  line_tampered place is = (subst (λ (r : Result (List ℕ) MemStop). IsCheckedRead tag_of line counter accesses engine engine' r) is reads.read).0
+
+  pub line_unspent : (page : ℕ) → result ≢ Err (Spent page)
+  line_unspent page is = subst (λ (r : Result (List ℕ) MemStop). IsCheckedRead tag_of line counter accesses engine engine' r) is reads.read

@@ -41,14 +41,15 @@ pub first_stays : (before : Option Evidence) (shown : Option Evidence) (evidence
 first_stays None shown evidence is = absurd (cc)
 first_stays (Some first) shown evidence is = is
 
+-- where none is shown, none was added
+pub or_none : (before : Option Evidence) (shown : Option Evidence) → option_or before shown ≡ None → shown ≡ None
+or_none None shown none = none
+or_none (Some first) shown none = absurd (cc)
+
 -- by whether there is evidence
 pub by_evidence : {P : Type 0} (o : Option Evidence) → (o ≡ None → P) → ((evidence : Evidence) → o ≡ Some evidence → P) → P
 by_evidence None none some = none refl
 by_evidence (Some evidence) none some = some evidence refl
-
-pub none_or : {P : Type 0} (o : Option Evidence) → (o ≢ None → P) → (o ≡ None) ⊎ P
-none_or None some = inl refl
-none_or (Some evidence) some = inr (some (λ none. absurd (cc)))
 
 -- no evidence and no such stop, or what follows from evidence
 pub none_found : {P : Type 0} (o : Option Evidence) (stop : Option MemStop) → ((place : Place) → stop ≢ Some (Tampered place)) → (o ≢ None → P) →

@@ -1,7 +1,7 @@
 -- What holds of no call, and of two calls one after the other, told by their accesses.
-use Rattle.std.proofs.Common.{◌≡◌, ◌≢◌, inl, inr, ℕ, ◌+◌, ◌≤◌, List, [], ◌∷◌, ◌++◌, length, map, Option, Some, None, refl, ap, sym, ◌∙◌, subst, arith, append_assoc, length-append}
+use Rattle.std.proofs.Common.{◌≡◌, ◌≢◌, ◌⊎◌, inl, inr, ℕ, ◌+◌, ◌≤◌, List, [], ◌∷◌, ◌++◌, length, map, Option, Some, None, refl, ap, sym, ◌∙◌, subst, arith, append_assoc, length-append}
 use Rattle.std.proofs.lemmas.List.{append-nil, length-map, map-append}
-use Rattle.sec_base.specs.Count.{RoseBy}
+use Rattle.sec_base.specs.Count.{Rose, RoseBy}
 use Rattle.sec_base.specs.Geometry.{GeometryView}
 use Rattle.sec_base.specs.Evidence.{evidence_bytes, evidence_place}
 use Rattle.sec_base.specs.declared.counter.Counter.{Counter}
@@ -11,12 +11,12 @@ use Rattle.sec_base.specs.declared.place.Place.{Place}
 use Rattle.sec_base.specs.declared.stop.MemStop.{MemStop}
 use Rattle.sec_base.specs.declared.stop.MemStop.TheVariants.{Tampered}
 use Rattle.sec_base.specs.Place.{IsPlace}
-use Rattle.bus_model.specs.Access.{Access, Read, Write, AreOf, CameBy, EndsWithRead, writes_in, came_on}
+use Rattle.bus_model.specs.Access.{Access, Read, Write, AreOf, CameBy, EndsWithRead, after_all, writes_in, came_on}
 use Rattle.bus_model.specs.BusHistory.{BusHistory}
-use Rattle.bus_model.proofs.Accesses.{all_lies, writes_joined}
+use Rattle.bus_model.proofs.Accesses.{all_accesses, all_geometry, all_lies, all_reads_of, writes_joined}
 use Rattle.tag_engine.specs.TagEngine.{TagEngineView, tags_of}
 use Rattle.checked_bus.specs.Makes.{access_of, HasAccesses, HasCount, IsShownIn, IsChecked, Makes, MakesAccesses}
-use Rattle.checked_bus.specs.Steps.{unwritten_in}
+use Rattle.checked_bus.specs.Steps.{Moves, unwritten_in}
 use Rattle.checked_bus.proofs.Evidences.{by_evidence}
 
 -- the tags are those of the tagger and the geometry
@@ -44,7 +44,6 @@ pub makes_not : {T : Type 0} (tag_of : Message → List ℕ) (expected : List (�
     (history : BusHistory) (engine : TagEngineView T) → Makes tag_of expected history engine history engine [] None
 makes_not tag_of expected history engine = record {
   came = refl;
-  bus_geometry = refl;
   has = has_not tag_of engine None (λ place is. cc);
   geometry = refl;
   tagger = refl;
@@ -168,6 +167,27 @@ checked_on tag_of expected expected' first second third engine engine' engine'' 
 lies_rose : (old new : BusHistory) (accesses : List Access) → CameBy old accesses new → RoseBy 0 old.lies new.lies
 lies_rose old new accesses came = subst (λ (t : BusHistory). RoseBy 0 old.lies t.lies) (sym came) (all_lies accesses old)
 
+-- what it leaves as it was, adds to, or raises
+pub makes_moves : {T : Type 0} {tag_of : Message → List ℕ} {expected : List (ℕ × Counter) → Type 0} {old new : BusHistory} {engine engine' : TagEngineView T}
+    {accesses : List Access} {stop : Option MemStop} → Makes tag_of expected old engine new engine' accesses stop → Moves old engine new engine'
+makes_moves {old = old} {new = new} {accesses = accesses} makes = record {
+  bus_geometry = ap (λ (t : BusHistory). t.geometry) makes.came ∙ all_geometry accesses old;
+  geometry = makes.geometry;
+  tagger = makes.tagger;
+  more = makes.has.written ++ makes.has.unwritten;
+  made = makes.has.made;
+  evidence = makes.checked.first;
+  reads = λ place.
+      let read = (all_reads_of accesses old place).0 in
+      let is : new.reads place ≡ (after_all accesses old).reads place = ap (λ (t : BusHistory). t.reads place) makes.came in
+      omega (arith, read, is);
+  accesses =
+      let made = (all_accesses accesses old).0 in
+      let is : new.accesses ≡ (after_all accesses old).accesses = ap (λ (t : BusHistory). t.accesses) makes.came in
+      omega (arith, made, is);
+  lies = lies_rose old new accesses makes.came;
+}
+
 pub makes_on : {T : Type 0} (tag_of : Message → List ℕ) (expected expected' : List (ℕ × Counter) → Type 0)
     (first second third : BusHistory) (engine engine' engine'' : TagEngineView T) (before after : List Access) (stop : Option MemStop) →
     ((used : List (ℕ × Counter)) → expected used → engine'.evidence ≡ None → expected' used) →
@@ -176,7 +196,6 @@ pub makes_on : {T : Type 0} (tag_of : Message → List ℕ) (expected expected' 
 makes_on tag_of expected expected' first second third engine engine' engine'' before after stop leaves makes more =
     record {
       came = came_on first second third before after makes.came more.came;
-      bus_geometry = more.bus_geometry ∙ makes.bus_geometry;
       has = has_on tag_of engine engine' engine'' before after stop makes.geometry more.checked.first makes.has more.has;
       geometry = more.geometry ∙ makes.geometry;
       tagger = more.tagger ∙ makes.tagger;
@@ -188,6 +207,26 @@ makes_on tag_of expected expected' first second third engine engine' engine'' be
           (lies_rose first second before makes.came) (lies_rose second third after more.came) makes.checked more.checked;
     }
 
+-- evidence comes only where an answer was false
+pub shown_rose : {T : Type 0} {tag_of : Message → List ℕ} {expected : List (ℕ × Counter) → Type 0} {old new : BusHistory} {engine engine' : TagEngineView T}
+    {stop : Option MemStop} → IsChecked tag_of expected old engine new engine' stop → (used : List (ℕ × Counter)) → expected used → engine.evidence ≡ None →
+    (engine'.evidence ≡ None) ⊎ Rose old.lies new.lies
+shown_rose checked used expects quiet =
+    elim (checked.found used expects quiet) [
+      | inl none ↦ inl none.0
+      | inr rose ↦ inr rose
+    ]
+
+-- and so does tampering, where there is none
+pub tampered_rose : {T : Type 0} {tag_of : Message → List ℕ} {expected : List (ℕ × Counter) → Type 0} {old new : BusHistory} {engine engine' : TagEngineView T}
+    {stop : Option MemStop} → IsChecked tag_of expected old engine new engine' stop → (used : List (ℕ × Counter)) → expected used → engine.evidence ≡ None →
+    (place : Place) → stop ≡ Some (Tampered place) → Rose old.lies new.lies
+tampered_rose checked used expects quiet place is =
+    elim (checked.found used expects quiet) [
+      | inl none ↦ absurd (none.1 place is)
+      | inr rose ↦ rose
+    ]
+
 -- more may be expected
 pub makes_under : {T : Type 0} (tag_of : Message → List ℕ) (expected expected' : List (ℕ × Counter) → Type 0)
     (old new : BusHistory) (engine engine' : TagEngineView T) (accesses : List Access) (stop : Option MemStop) →
@@ -195,7 +234,6 @@ pub makes_under : {T : Type 0} (tag_of : Message → List ℕ) (expected expecte
     Makes tag_of expected old engine new engine' accesses stop → Makes tag_of expected' old engine new engine' accesses stop
 makes_under tag_of expected expected' old new engine engine' accesses stop under makes = record {
   came = makes.came;
-  bus_geometry = makes.bus_geometry;
   has = makes.has;
   geometry = makes.geometry;
   tagger = makes.tagger;

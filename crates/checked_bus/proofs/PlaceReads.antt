@@ -1,9 +1,9 @@
 -- What an answer for a place makes of a bus, and what stays where there was none.
-use Rattle.std.proofs.Common.{◌≡◌, ◌≢◌, ◌⊎◌, ℕ, inl, inr, Bool, true, false, cond, List, [], ◌∷◌, Option, None, Some, refl, ap, sym, ◌∙◌, subst, arith, length}
+use Rattle.std.proofs.Common.{◌≡◌, ◌≢◌, ◌⊎◌, ℕ, inl, inr, List, [], ◌∷◌, Option, None, Some, refl, ap, sym, ◌∙◌, subst, arith, length}
 use Rattle.std.proofs.lemmas.List.{append-nil}
-use Rattle.sec_base.specs.Count.{more_by, Rose, RoseBy}
+use Rattle.sec_base.specs.Count.{more_by, Rose}
 use Rattle.sec_base.specs.LastMessage.{data_pairs}
-use Rattle.sec_base.specs.Place.{IsPlace, place_eq, at_place}
+use Rattle.sec_base.specs.Place.{IsPlace}
 use Rattle.sec_base.specs.declared.counter.Counter.{Counter}
 use Rattle.sec_base.specs.declared.evidence.Evidence.{Evidence}
 use Rattle.sec_base.specs.declared.message.Message.{Message}
@@ -11,38 +11,35 @@ use Rattle.sec_base.specs.declared.place.Place.{Place}
 use Rattle.sec_base.specs.declared.place.Place.TheVariants.{Line as line_place}
 use Rattle.sec_base.specs.declared.stop.MemStop.{MemStop}
 use Rattle.sec_base.specs.declared.stop.MemStop.TheVariants.{Tampered, NoMemory}
-use Rattle.sec_base.proofs.SamePlaces.{place_eq-Decides, at_place-there}
-use Rattle.bus_model.specs.Access.{Read, EndsWithRead}
+use Rattle.sec_base.proofs.SamePlaces.{at_place-there}
+use Rattle.bus_model.specs.Access.{Access, Read, CameBy, EndsWithRead, after_all}
 use Rattle.bus_model.specs.BusHistory.{BusHistory, after_read}
-use Rattle.bus_model.proofs.Steps.{true_or_false, read_geometry, read_written, read_reads, read_accesses, read_rose}
+use Rattle.bus_model.proofs.Steps.{read_written, read_reads, read_accesses, read_rose}
 use Rattle.tag_engine.specs.TagEngine.{TagEngineView}
 use Rattle.checked_bus.specs.Makes.{HasAccesses, IsChecked, IsShownIn, Makes}
-use Rattle.checked_bus.specs.Steps.{IsAccounted, Moves, ReadsOnce, SameLines, SamePlace}
+use Rattle.checked_bus.specs.Steps.{IsAccounted, SameLines}
 use Rattle.checked_bus.proofs.Makes.{has_not}
 use Rattle.checked_bus.proofs.FalseAnswers.{first_lie_stays}
-use Rattle.checked_bus.proofs.Steps.{moves_not, same_last, same_place_not}
+use Rattle.checked_bus.proofs.Steps.{SamePlace, same_last, same_place_not}
 
--- Counts that an answer leaves or raises
+-- the history after one read, and after none
+pub told : (history history' : BusHistory) (accesses : List Access) (place : Place) (bytes : List ℕ) → CameBy history accesses history' →
+    accesses ≡ Read place bytes ∷ [] → history' ≡ after_read place bytes history
+told history history' accesses place bytes came is = came ∙ ap (λ (xs : List Access). after_all xs history) is
 
-risen_by : (same : Bool) (place other : Place) (reads : Place → ℕ) → (same ≡ true → other ≡ place) →
-    RoseBy 0 (reads other) (cond same (more_by 1 (reads place)) (reads other))
-risen_by true place other reads tells = let here : reads other ≡ reads place = ap reads (tells refl) in omega (arith, here)
-risen_by false place other reads tells = omega arith
+pub untold : (history history' : BusHistory) (accesses : List Access) → CameBy history accesses history' → accesses ≡ [] → history' ≡ history
+untold history history' accesses came is = came ∙ ap (λ (xs : List Access). after_all xs history) is
 
-pub reads_kept : (place other : Place) (bytes : List ℕ) (history : BusHistory) → RoseBy 0 (history.reads other) ((after_read place bytes history).reads other)
-reads_kept place other bytes history =
-    let is : (after_read place bytes history).reads other ≡ at_place place (more_by 1 (history.reads place)) history.reads other =
-    ap (λ (f : Place → ℕ). f other) (read_reads place bytes history) in
-    subst (λ (n : ℕ). RoseBy 0 (history.reads other) n) (sym is)
-    (risen_by (place_eq other place) place other history.reads (place_eq-Decides other place).0)
-
-lies_kept : (place : Place) (bytes : List ℕ) (history : BusHistory) → RoseBy 0 history.lies (after_read place bytes history).lies
-lies_kept place bytes history =
-    elim (true_or_false place bytes history) [
-      | inl truly ↦ let same : (after_read place bytes history).lies ≡ history.lies = ap (λ (t : BusHistory). t.lies) truly.1 in omega (arith, same)
-      | inr falsely ↦
-          let more : (after_read place bytes history).lies ≡ more_by 1 history.lies = ap (λ (t : BusHistory). t.lies) falsely.1 in omega (arith, more)
-    ]
+-- A checked read changes neither the messages nor what was written. It is one read of the place, or none where there was
+-- no memory for it.
+pub record ReadsOnce {T : Type 0} (place : Place) (old : BusHistory) (engine : TagEngineView T) (new : BusHistory)
+    (engine' : TagEngineView T) (stop : Option MemStop) : Type 0 where
+  pub made : engine'.made ≡ engine.made
+  pub room : engine'.room ≡ engine.room
+  pub written : new.written ≡ old.written
+  pub once : new.accesses ≡ more_by 1 old.accesses ⊎ (stop ≡ Some NoMemory)
+  pub rose : stop ≢ Some NoMemory → Rose (old.reads place) (new.reads place)
+  pub refused : stop ≡ Some NoMemory → (new ≡ old) × (engine' ≡ engine)
 
 -- A read of a place was answered so, and of the tag engine only what it shows may have changed.
 pub record WasAnswered {T : Type 0} (place : Place) (history history' : BusHistory) (engine engine' : TagEngineView T) : Type 0 where
@@ -58,23 +55,10 @@ IsRead place history history' engine engine' stop =
     (WasAnswered place history history' engine engine' × (stop ≢ Some NoMemory)) ⊎ ((history' ≡ history) × (engine' ≡ engine) × (stop ≡ Some NoMemory))
 
 module _ {T : Type 0} (place : Place) (history history' : BusHistory) (engine engine' : TagEngineView T) (stop : Option MemStop) where
-  pub place_moves : IsRead place history history' engine engine' stop → Moves history engine history' engine'
-  place_moves (inl (read, remembered)) = record {
-    bus_geometry = ap (λ (t : BusHistory). t.geometry) read.answered ∙ read_geometry place read.bytes history;
-    geometry = ap (λ (e : TagEngineView T). e.geometry) read.engine_is;
-    tagger = ap (λ (e : TagEngineView T). e.tagger) read.engine_is;
-    more = [];
-    made = ap (λ (e : TagEngineView T). e.made) read.engine_is ∙ sym (append-nil engine.made);
-    evidence = λ evidence is. ap (λ (e : TagEngineView T). e.evidence) read.engine_is ∙ read.first evidence is;
-    reads = λ other. subst (λ (t : BusHistory). RoseBy 0 (history.reads other) (t.reads other)) (sym read.answered) (reads_kept place other read.bytes history);
-    accesses =
-        let is : history'.accesses ≡ more_by 1 history.accesses = ap (λ (t : BusHistory). t.accesses) read.answered ∙ read_accesses place read.bytes history in
-        omega (arith, is);
-    lies = subst (λ (t : BusHistory). RoseBy 0 history.lies t.lies) (sym read.answered) (lies_kept place read.bytes history);
-  }
-  place_moves (inr (same, unchanged, refused)) =
-      subst (λ (t : BusHistory). Moves history engine t engine') (sym same)
-      (subst (λ (e : TagEngineView T). Moves history engine history e) (sym unchanged) (moves_not history engine))
+  -- the first evidence stays
+  pub place_first : IsRead place history history' engine engine' stop → (evidence : Evidence) → engine.evidence ≡ Some evidence → engine'.evidence ≡ Some evidence
+  place_first (inl (read, remembered)) evidence is = ap (λ (e : TagEngineView T). e.evidence) read.engine_is ∙ read.first evidence is
+  place_first (inr (same, unchanged, refused)) evidence is = ap (λ (e : TagEngineView T). e.evidence) unchanged ∙ is
 
   -- it is one read
   pub place_once : IsRead place history history' engine engine' stop → ReadsOnce place history engine history' engine' stop
@@ -156,7 +140,6 @@ module _ {T : Type 0} (tag_of : Message → List ℕ) (expected : List (ℕ × C
       IsChecked tag_of expected history engine history' engine' stop → Makes tag_of expected history engine history' engine' (Read place bytes ∷ []) stop
   answer_makes place bytes shown answered engine_is inside shows tells checked = record {
     came = answered;
-    bus_geometry = ap (λ (t : BusHistory). t.geometry) answered ∙ read_geometry place bytes history;
     has = record {
       written = [];
       unwritten = [];
@@ -179,7 +162,6 @@ module _ {T : Type 0} (tag_of : Message → List ℕ) (expected : List (ℕ × C
       IsChecked tag_of expected history engine history' engine' stop → Makes tag_of expected history engine history' engine' [] stop
   nothing_makes same engine_is untampered checked = record {
     came = same;
-    bus_geometry = ap (λ (t : BusHistory). t.geometry) same;
     has = subst (λ (e : TagEngineView T). HasAccesses tag_of engine e [] stop) (sym engine_is) (has_not tag_of engine stop untampered);
     geometry = ap (λ (e : TagEngineView T). e.geometry) engine_is;
     tagger = ap (λ (e : TagEngineView T). e.tagger) engine_is;

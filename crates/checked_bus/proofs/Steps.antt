@@ -1,7 +1,7 @@
 -- What holds of no call, and of two calls one after the other.
 use Rattle.std.proofs.Common.{◌≡◌, ℕ, List, [], ◌∷◌, ◌++◌, refl, ap, sym, ◌∙◌, subst, arith, append_assoc}
 use Rattle.std.proofs.lemmas.List.{append-nil}
-use Rattle.sec_base.specs.LastMessage.{data_pairs}
+use Rattle.sec_base.specs.LastMessage.{data_pairs, last_data, last_node}
 use Rattle.sec_base.specs.declared.counter.Counter.{Counter}
 use Rattle.sec_base.specs.declared.message.Message.{Message}
 use Rattle.sec_base.specs.declared.message.Message.TheVariants.{Line, Node}
@@ -9,7 +9,7 @@ use Rattle.sec_base.specs.declared.place.Place.{Place}
 use Rattle.sec_base.specs.declared.place.Place.TheVariants.{Line as line_place, Node as node_place}
 use Rattle.bus_model.specs.BusHistory.{BusHistory}
 use Rattle.tag_engine.specs.TagEngine.{TagEngineView}
-use Rattle.checked_bus.specs.Steps.{Moves, SameLast, SamePlace, SameLines}
+use Rattle.checked_bus.specs.Steps.{Moves, SameLines}
 
 pub moves_not : {T : Type 0} (history : BusHistory) (engine : TagEngineView T) → Moves history engine history engine
 moves_not history engine = record {
@@ -37,6 +37,17 @@ moves_on first second third engine engine' engine'' moves more = record {
   accesses = omega (arith, moves.accesses, more.accesses);
   lies = omega (arith, moves.lies, more.lies);
 }
+
+-- the last message of a place is the same
+abbrev pub SameLast : Place → List Message → List Message → Type 0
+SameLast (line_place line) made made' = last_data line made' ≡ last_data line made
+SameLast (node_place level index) made made' = last_node level index made' ≡ last_node level index made
+
+-- No call touched the place: it holds what it held, was not read, and its last message is the same.
+pub record SamePlace (place : Place) (old : BusHistory) (made : List Message) (new : BusHistory) (made' : List Message) : Type 0 where
+  pub written : new.written place ≡ old.written place
+  pub reads : new.reads place ≡ old.reads place
+  pub last : SameLast place made made'
 
 same_last_not : (place : Place) (made : List Message) → SameLast place made made
 same_last_not (line_place line) made = refl

@@ -1,6 +1,8 @@
--- What a call makes of a bus and a tag engine, told by its accesses. It holds of no call, and of two calls one after the
--- other where it holds of each.
+-- What a call makes of a bus and a tag engine, told by its accesses. `HasAccesses`, `MakesAccesses` and `Makes` hold of no call,
+-- which is no access, and of two calls one after the other, by the accesses of both, where they hold of each, the first did not
+-- stop, and it leaves what the second expects.
 use Rattle.std.specs.Prelude.{◌≡◌, ◌≢◌, ◌⊎◌, ℕ, ◌+◌, ◌-◌, ◌<◌, ◌≤◌, List, [], ◌∷◌, ◌++◌, length, map, Option, Some, None, Result, Ok, Err}
+use Rattle.std.specs.Result.{result_err}
 use Rattle.sec_base.specs.Count.{Rose}
 use Rattle.sec_base.specs.Evidence.{evidence_bytes, evidence_place}
 use Rattle.sec_base.specs.Place.{IsPlace}
@@ -12,12 +14,13 @@ use Rattle.sec_base.specs.declared.message.Message.TheVariants.{Line, Node}
 use Rattle.sec_base.specs.declared.place.Place.{Place}
 use Rattle.sec_base.specs.declared.place.Place.TheVariants.{Line as line_place, Node as node_place}
 use Rattle.sec_base.specs.declared.stop.MemStop.{MemStop}
-use Rattle.sec_base.specs.declared.stop.MemStop.TheVariants.{Tampered, Spent, NoMemory}
+use Rattle.sec_base.specs.declared.stop.MemStop.TheVariants.{Tampered, NoMemory}
 use Rattle.bus_model.specs.Access.{Access, Read, Write, AreOf, CameBy, EndsWithRead, writes_in}
 use Rattle.bus_model.specs.BusHistory.{BusHistory}
 use Rattle.tag_engine.specs.TagEngine.{TagEngineView}
+use Rattle.checked_bus.specs.Checks.{IsCheckedNode, IsCheckedRead}
 use Rattle.checked_bus.specs.SealedLine.{sealed_line}
-use Rattle.checked_bus.specs.Steps.{IsAccounted, unwritten_in}
+use Rattle.checked_bus.specs.Steps.{IsAccounted, IsCurrent, IsCurrentNode, unwritten_in}
 
 -- the write of a message
 abbrev pub access_of : (Message → List ℕ) → Message → Access
@@ -77,31 +80,29 @@ pub record Makes {T : Type 0} (tag_of : Message → List ℕ) (expected : List (
     (history : BusHistory) (engine : TagEngineView T) (history' : BusHistory) (engine' : TagEngineView T)
     (accesses : List Access) (stop : Option MemStop) : Type 0 where
   pub came : CameBy history accesses history'
-  pub bus_geometry : history'.geometry ≡ history.geometry
   pub has : HasAccesses tag_of engine engine' accesses stop
   pub geometry : engine'.geometry ≡ engine.geometry
   pub tagger : engine'.tagger ≡ engine.tagger
   pub room : engine'.room ≡ engine.room - (length engine'.made - length engine.made)
   pub checked : IsChecked tag_of expected history engine history' engine' stop
 
--- one read of a place
-pub record HasAnswer (place : Place) (accesses : List Access) : Type 0 where
-  pub bytes : List ℕ
-  pub is : accesses ≡ Read place bytes ∷ []
+-- A checked read of a line is one read of its place, or none where there was no memory for it. What is expected is that the
+-- counter is the line's last.
+pub record ReadsLine {T : Type 0} (tag_of : Message → List ℕ) (line : ℕ) (counter : Counter) (history : BusHistory)
+    (engine : TagEngineView T) (history' : BusHistory) (engine' : TagEngineView T) (accesses : List Access)
+    (result : Result (List ℕ) MemStop) : Type 0 where
+  pub read : IsCheckedRead tag_of line counter accesses engine engine' result
+  pub makes : Makes tag_of (λ used. IsCurrent tag_of used engine.made history.written line counter)
+      history engine history' engine' accesses (result_err result)
 
--- the accesses of a read of a place, and of one that there was no memory for
-abbrev pub AreOneRead : Place → Option MemStop → List Access → Type 0
-AreOneRead place None accesses = HasAnswer place accesses
-AreOneRead place (Some (Tampered other)) accesses = HasAnswer place accesses × (other ≡ place)
-AreOneRead place (Some (Spent page)) accesses = ⊥
-AreOneRead place (Some NoMemory) accesses = accesses ≡ []
-
--- A checked read is one read of its place.
-pub record ReadsPlace {T : Type 0} (tag_of : Message → List ℕ) (expected : List (ℕ × Counter) → Type 0) (place : Place)
-    (history : BusHistory) (engine : TagEngineView T) (history' : BusHistory) (engine' : TagEngineView T)
-    (accesses : List Access) (stop : Option MemStop) : Type 0 where
-  pub once : AreOneRead place stop accesses
-  pub makes : Makes tag_of expected history engine history' engine' accesses stop
+-- A checked read of a node is one read of its place, or none where there was no memory for it. What is expected is that the tag
+-- is that of the node's last block.
+pub record ReadsNode {T : Type 0} (tag_of : Message → List ℕ) (level index : ℕ) (tag : List ℕ) (history : BusHistory)
+    (engine : TagEngineView T) (history' : BusHistory) (engine' : TagEngineView T) (accesses : List Access)
+    (result : Result (List ℕ) MemStop) : Type 0 where
+  pub read : IsCheckedNode tag_of level index tag accesses engine engine' result
+  pub makes : Makes tag_of (λ used. IsCurrentNode tag_of engine.made history.written level index tag)
+      history engine history' engine' accesses (result_err result)
 
 -- the accesses of a write, and why it stopped, by its answer
 abbrev pub if_done : {A E : Type 0} → Result A E → Access → List Access

@@ -1,6 +1,6 @@
 -- What a call makes of a bus and a tag engine, seen by the bus's history and by what the engine made and shows.
--- `Moves`, `SamePlace` and `SameLines` hold of no call, and of two calls one after the other where they hold of each.
-use Rattle.std.specs.Prelude.{◌≡◌, ◌≢◌, ◌⊎◌, ℕ, List, [], ◌++◌, Option, Some, None, Contains, IfSome}
+-- `Moves` and `SameLines` hold of no call, and of two calls one after the other where they hold of each.
+use Rattle.std.specs.Prelude.{◌≡◌, ℕ, List, [], ◌++◌, Option, Some, None, Contains, IfSome}
 use Rattle.sec_base.specs.declared.counter.Counter.{Counter}
 use Rattle.sec_base.specs.declared.evidence.Evidence.{Evidence}
 use Rattle.sec_base.specs.declared.message.Message.{Message}
@@ -9,10 +9,9 @@ use Rattle.sec_base.specs.declared.place.Place.{Place}
 use Rattle.sec_base.specs.declared.place.Place.TheVariants.{Line as line_place, Node as node_place}
 use Rattle.sec_base.specs.declared.stop.MemStop.{MemStop}
 use Rattle.sec_base.specs.declared.stop.MemStop.TheVariants.{Tampered, Spent, NoMemory}
-use Rattle.sec_base.specs.Count.{Rose, RoseBy, more_by}
+use Rattle.sec_base.specs.Count.{RoseBy}
 use Rattle.sec_base.specs.Evidence.{IsEvidence}
 use Rattle.sec_base.specs.LastMessage.{data_pairs, last_data, last_node, last_pair}
-use Rattle.sec_base.specs.Place.{at_place}
 use Rattle.bus_model.specs.BusHistory.{BusHistory}
 use Rattle.bus_model.specs.FirstLie.{AccountsForLies}
 use Rattle.tag_engine.specs.TagEngine.{TagEngineView}
@@ -29,17 +28,6 @@ pub record Moves {T : Type 0} (old : BusHistory) (engine : TagEngineView T) (new
   pub reads : (place : Place) → RoseBy 0 (old.reads place) (new.reads place)
   pub accesses : RoseBy 0 old.accesses new.accesses
   pub lies : RoseBy 0 old.lies new.lies
-
--- the last message of a place is the same
-abbrev pub SameLast : Place → List Message → List Message → Type 0
-SameLast (line_place line) made made' = last_data line made' ≡ last_data line made
-SameLast (node_place level index) made made' = last_node level index made' ≡ last_node level index made
-
--- No call touched the place: it holds what it held, was not read, and its last message is the same.
-pub record SamePlace (place : Place) (old : BusHistory) (made : List Message) (new : BusHistory) (made' : List Message) : Type 0 where
-  pub written : new.written place ≡ old.written place
-  pub reads : new.reads place ≡ old.reads place
-  pub last : SameLast place made made'
 
 -- No call touched any line: the places of lines hold what they held and were not read, and only messages of nodes were made.
 pub record SameLines (old : BusHistory) (made : List Message) (new : BusHistory) (made' : List Message) : Type 0 where
@@ -70,25 +58,6 @@ pub record IsCurrentNode (tag_of : Message → List ℕ) (made : List Message) (
   pub last : last_node level index made ≡ Some block
   pub tagged : tag ≡ tag_of (Node level index block)
   pub stored : written (node_place level index) ≡ block
-
--- A checked read changes neither the messages nor what was written. It is one read of the place, or none where there was
--- no memory for it.
-pub record ReadsOnce {T : Type 0} (place : Place) (old : BusHistory) (engine : TagEngineView T) (new : BusHistory)
-    (engine' : TagEngineView T) (stop : Option MemStop) : Type 0 where
-  pub made : engine'.made ≡ engine.made
-  pub room : engine'.room ≡ engine.room
-  pub written : new.written ≡ old.written
-  pub once : new.accesses ≡ more_by 1 old.accesses ⊎ (stop ≡ Some NoMemory)
-  pub rose : stop ≢ Some NoMemory → Rose (old.reads place) (new.reads place)
-  pub refused : stop ≡ Some NoMemory → (new ≡ old) × (engine' ≡ engine)
-
--- A write changes what the place holds and nothing else of the bus, but that an access is counted.
-pub record WritesOnce (place : Place) (bytes : List ℕ) (old new : BusHistory) : Type 0 where
-  pub written : new.written ≡ at_place place bytes old.written
-  pub reads : new.reads ≡ old.reads
-  pub lies : new.lies ≡ old.lies
-  pub lie : new.lie ≡ old.lie
-  pub once : new.accesses ≡ more_by 1 old.accesses
 
 -- how many messages may be made that were not written: the last one, where there was no memory to write it
 abbrev pub unwritten_in : Option MemStop → ℕ

@@ -1,4 +1,4 @@
-use Rattle.std.proofs.Common.{◌≡◌, ℕ, List, ◌++◌, OnOk, rules, ap, subst, sym}
+use Rattle.std.proofs.Common.{ℕ, List, ◌++◌, rules, ap, subst, sym}
 use Rattle.sec_base.specs.Geometry.{GeometryView}
 use Rattle.sec_base.specs.Tag.{IsTag}
 use Rattle.tag_engine.proofs.Marks.{engine_tag_fits}
@@ -7,30 +7,14 @@ use Rattle.sec_base.specs.declared.message.Message.{Message}
 use Rattle.sec_base.specs.declared.message.Message.TheVariants.{Line}
 use Rattle.sec_base.specs.declared.place.Place.TheVariants.{Line as line_place}
 use Rattle.bus_model.specs.Access.{Access}
-use Rattle.bus_model.specs.BusHistory.{after_write}
 use Rattle.tag_engine.specs.TagEngine.{tags_of}
 use Rattle.checked_bus.specs.Makes.{access_of, if_done}
 use Rattle.checked_bus.specs.SealedLine.{sealed_line}
-use Rattle.checked_bus.proofs.TaggedWrites.{if_wrote, one_done, wrote_or_not, write_makes, write_moves, write_accounted}
+use Rattle.checked_bus.proofs.TaggedWrites.{one_done, write_makes}
 use Rattle.checked_bus.proofs.line.write_line.Goals as goal
 
 pub returns-clause-made : goal.returns-clause-made
 returns-clause-made g c = search rules
-
-pub returns-clause-ok : goal.returns-clause-ok
-returns-clause-ok g c =
-    let old = g.B.Bus.history c.args.bus.now in
-    let new = g.B.Bus.history c.write_data.new.self in
-    subst (λ (tag : List ℕ). OnOk c.write_data.result (new ≡ after_write (line_place c.args.line) (c.args.cipher.now ++ tag) old))
-    c.in_ok-tag.ensures.tag
-    (if_wrote (line_place c.args.line) (sealed_bytes (record { cipher = c.args.cipher.now; tag = c.in_ok-tag.tag })) old new
-    c.write_data.result (g.met.B.Bus.told c.args.bus.now c.write_data.new.self _ c.write_data.ensures.access)).0
-
-pub returns-clause-err : goal.returns-clause-err
-returns-clause-err g c =
-    (if_wrote (line_place c.args.line) (sealed_bytes (record { cipher = c.args.cipher.now; tag = c.in_ok-tag.tag }))
-    (g.B.Bus.history c.args.bus.now) (g.B.Bus.history c.write_data.new.self)
-    c.write_data.result (g.met.B.Bus.told c.args.bus.now c.write_data.new.self _ c.write_data.ensures.access)).1
 
 pub returns-clause-makes : goal.returns-clause-makes
 returns-clause-makes g c =
@@ -46,23 +30,6 @@ returns-clause-makes g c =
           c.args.tags.now c.make_data.new.self (returns-clause-made g c) (c.requires.line, tt) c.write_data.result
           (g.met.B.Bus.told c.args.bus.now c.write_data.new.self _ wrote),
     )
-
-pub returns-clause-moves : goal.returns-clause-moves
-returns-clause-moves g c =
-    write_moves (line_place c.args.line) (Line c.args.line c.args.counter c.args.cipher.now)
-    (g.B.Bus.history c.args.bus.now) (g.B.Bus.history c.write_data.new.self) c.args.tags.now c.make_data.new.self (returns-clause-made g c)
-    (wrote_or_not (line_place c.args.line) (sealed_bytes (record { cipher = c.args.cipher.now; tag = c.in_ok-tag.tag }))
-    (g.B.Bus.history c.args.bus.now) (g.B.Bus.history c.write_data.new.self)
-    c.write_data.result (g.met.B.Bus.told c.args.bus.now c.write_data.new.self _ c.write_data.ensures.access))
-
-pub returns-clause-honest : goal.returns-clause-honest
-returns-clause-honest g c =
-    write_accounted (line_place c.args.line) (Line c.args.line c.args.counter c.args.cipher.now)
-    (g.B.Bus.history c.args.bus.now) (g.B.Bus.history c.write_data.new.self) c.args.tags.now c.make_data.new.self (returns-clause-made g c)
-    (wrote_or_not (line_place c.args.line) (sealed_bytes (record { cipher = c.args.cipher.now; tag = c.in_ok-tag.tag }))
-    (g.B.Bus.history c.args.bus.now) (g.B.Bus.history c.write_data.new.self)
-    c.write_data.result (g.met.B.Bus.told c.args.bus.now c.write_data.new.self _ c.write_data.ensures.access))
-    (tags_of g.T.Tagger.data_tag_of g.T.Tagger.node_tag_of c.args.tags.now)
 
 pub write_data-requires-clause-fits : goal.write_data-requires-clause-fits
 write_data-requires-clause-fits g c =

@@ -2,12 +2,10 @@ use Rattle.std.proofs.Common.{ℕ, List, Ok, rules, subst}
 use Rattle.sec_base.specs.declared.message.Message.{Message}
 use Rattle.sec_base.specs.declared.message.Message.TheVariants.{Node}
 use Rattle.sec_base.specs.declared.stop.NoMemory.{NoMemory}
-use Rattle.sec_base.specs.declared.place.Place.TheVariants.{Node as node_place}
 use Rattle.bus_model.specs.Access.{Access}
 use Rattle.tag_engine.specs.TagEngine.{tags_of}
 use Rattle.checked_bus.specs.Makes.{access_of, if_done}
-use Rattle.checked_bus.proofs.TaggedWrites.{none_done, wrote_once, write_makes, wrote_or_not, node_last, no_line_made, write_moves, write_others, write_lines, write_accounted}
-use Rattle.checked_bus.proofs.CheckedNodes.{no_line}
+use Rattle.checked_bus.proofs.TaggedWrites.{none_done, write_makes}
 use Rattle.checked_bus.proofs.node.write_node.Goals as goal
 
 -- Refused, out of memory
@@ -29,30 +27,6 @@ returns-in_err-write_node-clause-makes g c =
           (g.met.B.Bus.told c.args.bus.now c.write_node.new.self _ none),
     )
 
-pub returns-in_err-write_node-clause-others : goal.returns-in_err-write_node-clause-others
-returns-in_err-write_node-clause-others g c =
-    write_others (node_place c.args.level c.args.index) (Node c.args.level c.args.index c.args.block.now)
-    (g.B.Bus.history c.args.bus.now) (g.B.Bus.history c.write_node.new.self) c.args.tags.now c.make_node.new.self (returns-in_err-write_node-clause-made g c)
-    (wrote_or_not (node_place c.args.level c.args.index) c.args.block.now (g.B.Bus.history c.args.bus.now) (g.B.Bus.history c.write_node.new.self)
-    c.write_node.result (g.met.B.Bus.told c.args.bus.now c.write_node.new.self _ c.write_node.ensures.access))
-    (node_last c.args.tags.now.made c.args.level c.args.index c.args.block.now)
-
-pub returns-in_err-write_node-clause-lines : goal.returns-in_err-write_node-clause-lines
-returns-in_err-write_node-clause-lines g c =
-    write_lines (node_place c.args.level c.args.index) (Node c.args.level c.args.index c.args.block.now)
-    (g.B.Bus.history c.args.bus.now) (g.B.Bus.history c.write_node.new.self) c.args.tags.now c.make_node.new.self (returns-in_err-write_node-clause-made g c)
-    (wrote_or_not (node_place c.args.level c.args.index) c.args.block.now (g.B.Bus.history c.args.bus.now) (g.B.Bus.history c.write_node.new.self)
-    c.write_node.result (g.met.B.Bus.told c.args.bus.now c.write_node.new.self _ c.write_node.ensures.access))
-    (no_line_made c.args.level c.args.index c.args.block.now) (no_line c.args.level c.args.index)
-
-pub returns-in_err-write_node-clause-honest : goal.returns-in_err-write_node-clause-honest
-returns-in_err-write_node-clause-honest g c =
-    write_accounted (node_place c.args.level c.args.index) (Node c.args.level c.args.index c.args.block.now)
-    (g.B.Bus.history c.args.bus.now) (g.B.Bus.history c.write_node.new.self) c.args.tags.now c.make_node.new.self (returns-in_err-write_node-clause-made g c)
-    (wrote_or_not (node_place c.args.level c.args.index) c.args.block.now (g.B.Bus.history c.args.bus.now) (g.B.Bus.history c.write_node.new.self)
-    c.write_node.result (g.met.B.Bus.told c.args.bus.now c.write_node.new.self _ c.write_node.ensures.access))
-    (tags_of g.T.Tagger.data_tag_of g.T.Tagger.node_tag_of c.args.tags.now)
-
 -- Written
 
 pub returns-clause-made : goal.returns-clause-made
@@ -66,39 +40,3 @@ returns-clause-makes g c = (
       c.args.tags.now c.make_node.new.self (returns-clause-made g c) (c.requires.node, tt) {E = NoMemory} (Ok c.in_ok-tag.tag)
       (g.met.B.Bus.told c.args.bus.now c.write_node.new.self _ c.in_ok-write_node.ensures.access),
 )
-
-pub returns-clause-moves : goal.returns-clause-moves
-returns-clause-moves g c =
-    write_moves (node_place c.args.level c.args.index) (Node c.args.level c.args.index c.args.block.now)
-    (g.B.Bus.history c.args.bus.now) (g.B.Bus.history c.write_node.new.self) c.args.tags.now c.make_node.new.self (returns-clause-made g c)
-    (wrote_or_not (node_place c.args.level c.args.index) c.args.block.now (g.B.Bus.history c.args.bus.now) (g.B.Bus.history c.write_node.new.self)
-    c.write_node.result (g.met.B.Bus.told c.args.bus.now c.write_node.new.self _ c.write_node.ensures.access))
-
-pub returns-clause-once : goal.returns-clause-once
-returns-clause-once g c =
-    wrote_once (node_place c.args.level c.args.index) c.args.block.now (g.B.Bus.history c.args.bus.now) (g.B.Bus.history c.write_node.new.self)
-    (search rules)
-
-pub returns-clause-others : goal.returns-clause-others
-returns-clause-others g c =
-    write_others (node_place c.args.level c.args.index) (Node c.args.level c.args.index c.args.block.now)
-    (g.B.Bus.history c.args.bus.now) (g.B.Bus.history c.write_node.new.self) c.args.tags.now c.make_node.new.self (returns-clause-made g c)
-    (wrote_or_not (node_place c.args.level c.args.index) c.args.block.now (g.B.Bus.history c.args.bus.now) (g.B.Bus.history c.write_node.new.self)
-    c.write_node.result (g.met.B.Bus.told c.args.bus.now c.write_node.new.self _ c.write_node.ensures.access))
-    (node_last c.args.tags.now.made c.args.level c.args.index c.args.block.now)
-
-pub returns-clause-lines : goal.returns-clause-lines
-returns-clause-lines g c =
-    write_lines (node_place c.args.level c.args.index) (Node c.args.level c.args.index c.args.block.now)
-    (g.B.Bus.history c.args.bus.now) (g.B.Bus.history c.write_node.new.self) c.args.tags.now c.make_node.new.self (returns-clause-made g c)
-    (wrote_or_not (node_place c.args.level c.args.index) c.args.block.now (g.B.Bus.history c.args.bus.now) (g.B.Bus.history c.write_node.new.self)
-    c.write_node.result (g.met.B.Bus.told c.args.bus.now c.write_node.new.self _ c.write_node.ensures.access))
-    (no_line_made c.args.level c.args.index c.args.block.now) (no_line c.args.level c.args.index)
-
-pub returns-clause-honest : goal.returns-clause-honest
-returns-clause-honest g c =
-    write_accounted (node_place c.args.level c.args.index) (Node c.args.level c.args.index c.args.block.now)
-    (g.B.Bus.history c.args.bus.now) (g.B.Bus.history c.write_node.new.self) c.args.tags.now c.make_node.new.self (returns-clause-made g c)
-    (wrote_or_not (node_place c.args.level c.args.index) c.args.block.now (g.B.Bus.history c.args.bus.now) (g.B.Bus.history c.write_node.new.self)
-    c.write_node.result (g.met.B.Bus.told c.args.bus.now c.write_node.new.self _ c.write_node.ensures.access))
-    (tags_of g.T.Tagger.data_tag_of g.T.Tagger.node_tag_of c.args.tags.now)
