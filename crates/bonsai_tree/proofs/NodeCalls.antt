@@ -17,7 +17,8 @@ use Rattle.sec_base.specs.Tag.{IsTag}
 use Rattle.sec_base.proofs.Results.{stop_is, was_none}
 use Rattle.bus_model.specs.BusHistory.{BusHistory}
 use Rattle.tag_engine.specs.TagEngine.{TagEngineView, tags_of, with_room}
-use Rattle.checked_bus.specs.Steps.{IsAccounted, WritesOnce, unwritten_in}
+use Rattle.checked_bus.specs.Steps.{IsAccounted, unwritten_in}
+use Rattle.checked_bus.proofs.TaggedWrites.{WritesOnce}
 use Rattle.checked_bus.proofs.CheckedReads.{ended_accounted}
 use Rattle.bonsai_tree.specs.KeptRead.{IsKeptNode, ReadsKept}
 use Rattle.bonsai_tree.specs.Climb.{Climbs}

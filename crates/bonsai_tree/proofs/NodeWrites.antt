@@ -1,6 +1,6 @@
 -- Writes of nodes, one after another.
 use Rattle.std.proofs.Common.{◌≡◌, ◌≢◌, ◌⊎◌, inl, inr, ℕ, ◌+◌, ◌-◌, ◌≤◌, true, nat_eq, List, [], ◌∷◌, ◌++◌, length, Some, None, refl, ap, sym, ◌∙◌, subst, arith, length-append}
-use Rattle.std.specs.Prelude.{Contains}
+use Rattle.std.specs.Prelude.{Contains, Result}
 use Rattle.std.proofs.lemmas.Bool.Decides.{Decides-eqb}
 use Rattle.std.proofs.lemmas.List.Elements.{Contains-append_left, Contains-append_right}
 use Rattle.sec_base.specs.Geometry.{GeometryView}
@@ -15,7 +15,11 @@ use Rattle.sec_base.proofs.LastMessages.{last_of_same}
 use Rattle.sec_base.proofs.SamePlaces.{at_place-here}
 use Rattle.bus_model.specs.BusHistory.{BusHistory}
 use Rattle.tag_engine.specs.TagEngine.{TagEngineView, after_make, tags_of}
-use Rattle.checked_bus.specs.Steps.{IsAccounted, Moves, SameLines, SamePlace, WritesOnce}
+use Rattle.checked_bus.specs.Makes.{WritesMessage}
+use Rattle.checked_bus.specs.Steps.{IsAccounted, Moves, SameLines}
+use Rattle.checked_bus.proofs.Makes.{makes_moves}
+use Rattle.checked_bus.proofs.Steps.{SamePlace}
+use Rattle.checked_bus.proofs.TaggedWrites.{WritesOnce, write_honest, write_lines, write_others}
 use Rattle.bonsai_tree.specs.Tree.{NodesAreMade, NodesHoldLast}
 use Rattle.bonsai_tree.specs.Writing.{WritesNodes}
 use Rattle.bonsai_tree.proofs.Nodes.{SameNode, same_or_not}
@@ -46,6 +50,17 @@ pub record NodeWritten {T : Type 0} (tags : TagEngineView T → Message → List
   pub others : (other : Place) → other ≢ node_place level index → SamePlace other old engine.made new engine'.made
   pub honest : (used more : List (ℕ × Counter)) → IsAccounted (tags engine) used engine.made old None engine.evidence →
       IsAccounted (tags engine) more engine'.made new None engine'.evidence
+
+pub node_written : {T : Type 0} (tags : TagEngineView T → Message → List ℕ) (level index : ℕ) (block : List ℕ) (result : Result (Unit {0}) (Unit {0})) {old new : BusHistory} {engine engine' : TagEngineView T} →
+    engine' ≡ after_make (Node level index block) engine → WritesMessage (tags engine) (Node level index block) old engine new engine' result →
+    NodeWritten tags level index block old engine new engine'
+node_written tags level index block result made writes = record {
+  made = made;
+  moves = makes_moves writes;
+  lines = write_lines level index block result made writes;
+  others = write_others level index block result made writes;
+  honest = write_honest (Node level index block) result made writes;
+}
 
 module _ {T : Type 0} (d n : T → List ℕ → List ℕ) {level index : ℕ} {block : List ℕ} {old new : BusHistory} {engine engine' : TagEngineView T}
     (write : NodeWritten (tags_of d n) level index block old engine new engine') where

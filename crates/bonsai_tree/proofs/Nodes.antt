@@ -14,6 +14,7 @@ use Rattle.sec_base.specs.declared.place.Place.{Place}
 use Rattle.sec_base.specs.declared.place.Place.TheVariants.{Node as node_place}
 use Rattle.sec_base.specs.declared.stop.MemStop.{MemStop}
 use Rattle.sec_base.specs.declared.stop.MemStop.TheVariants.{Tampered, Spent, NoMemory}
+use Rattle.bus_model.specs.Access.{Access}
 use Rattle.bus_model.specs.BusHistory.{BusHistory}
 use Rattle.tag_engine.specs.TagEngine.{TagEngineView, collision_of, tags_of}
 use Rattle.tag_engine.proofs.Collisions.{collides}
@@ -79,16 +80,16 @@ found_by tag_of made level index block tag None evidence none shown =
 found_by tag_of made level index block tag (Some first) evidence none shown = absurd (cc)
 
 -- what a read of a node finds is of the node
-pub node_found : {T : Type 0} (tag_of : Message → List ℕ) (level index : ℕ) (tag : List ℕ) (history history' : BusHistory) (engine engine' : TagEngineView T)
-    (result : Result (List ℕ) MemStop) → IsCheckedNode tag_of level index tag history history' engine engine' result →
+pub node_found : {T : Type 0} (tag_of : Message → List ℕ) (level index : ℕ) (tag : List ℕ) (accesses : List Access) (engine engine' : TagEngineView T)
+    (result : Result (List ℕ) MemStop) → IsCheckedNode tag_of level index tag accesses engine engine' result →
     (evidence : Evidence) → engine.evidence ≡ None → engine'.evidence ≡ Some evidence → evidence_place evidence ≡ node_place level index
-node_found {T} tag_of level index tag history history' engine engine' (Ok answer) passed evidence none shown =
+node_found {T} tag_of level index tag accesses engine engine' (Ok answer) passed evidence none shown =
     found_by tag_of engine.made level index passed.block tag engine.evidence evidence none
     (sym (ap (λ (e : TagEngineView T). e.evidence) passed.checked) ∙ shown)
-node_found {T} tag_of level index tag history history' engine engine' (Err (Tampered place)) failed evidence none shown =
+node_found {T} tag_of level index tag accesses engine engine' (Err (Tampered place)) failed evidence none shown =
     let same : engine'.evidence ≡ engine.evidence = ap (λ (e : TagEngineView T). e.evidence) failed.1.unchanged in absurd (cc)
-node_found tag_of level index tag history history' engine engine' (Err (Spent page)) refused evidence none shown = absurd refused
-node_found {T} tag_of level index tag history history' engine engine' (Err NoMemory) refused evidence none shown =
+node_found tag_of level index tag accesses engine engine' (Err (Spent page)) refused evidence none shown = absurd refused
+node_found {T} tag_of level index tag accesses engine engine' (Err NoMemory) refused evidence none shown =
     let same : engine'.evidence ≡ engine.evidence = ap (λ (e : TagEngineView T). e.evidence) refused.1 in absurd (cc)
 
 -- moves leave the tags

@@ -1,5 +1,4 @@
 use Rattle.std.proofs.Common.{◌≡◌, ◌≢◌, rules, []}
-use Rattle.std.specs.Result.{result_err}
 use Rattle.tag_engine.specs.TagEngine.{tags_of}
 use Rattle.checked_bus.proofs.Makes.{makes_not}
 use Rattle.bonsai_tree.specs.Node.{no_tag}
@@ -12,9 +11,7 @@ pub returns-clause-read : goal.returns-clause-read
 returns-clause-read g c =
     let some : c.args.tag.now ≢ no_tag = search rules in
     reads_made g.T.Tagger.data_tag_of g.T.Tagger.node_tag_of c.args.level c.args.index c.args.tag.now (g.B.Bus.history c.args.bus.now)
-    (g.B.Bus.history c.read_node.new.bus) c.args.tags.now c.read_node.new.tags c.read_node.result some c.read_node.ensures.read c.read_node.ensures.moves
-    c.read_node.ensures.once c.read_node.ensures.others c.read_node.ensures.lines c.read_node.ensures.honest c.read_node.ensures.known
-    c.read_node.ensures.accepted c.read_node.ensures.tampered c.read_node.ensures.shown c.read_node.ensures.unspent
+    (g.B.Bus.history c.read_node.new.bus) c.args.tags.now c.read_node.new.tags c.read_node.ensures.reads.0 c.read_node.result some c.read_node.ensures.reads.2
 
 pub returns-then-eq-clause-read : goal.returns-then-eq-clause-read
 returns-then-eq-clause-read g c =
@@ -28,7 +25,7 @@ returns-then-eq-clause-makes g c =
 pub returns-clause-makes : goal.returns-clause-makes
 returns-clause-makes g c =
     let some : c.args.tag.now ≢ no_tag = search rules in
-    let read = c.read_node.ensures.makes in (
+    let read = c.read_node.ensures.reads in (
       read.0,
       read.1,
       makes_kept g.T.Tagger.data_tag_of g.T.Tagger.node_tag_of c.args.level c.args.index c.args.tag.now some read.2.makes,
