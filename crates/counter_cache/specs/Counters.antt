@@ -113,10 +113,3 @@ pub record IsHad (tag_of : Message → List ℕ) (counters counters' : CountersV
     (block : List ℕ) : Type 0 where
   pub copy_or_tagged : IsCopyOrTagged (cached_block counters page) tag_of counters'.tree made' page block
   pub accepted : before ≡ None → (made_at : ℕ) (bytes tag : List ℕ) → after ≡ Some (Collision 0 page made_at bytes tag) → block ≡ bytes
-
--- The counters are those of a block that was had.
-pub record AreHad (tag_of : Message → List ℕ) (counters counters' : CountersView) (made' : List Message) (page : ℕ) (before after : Option Evidence)
-    (block : CounterBlockView) : Type 0 where
-  pub bytes : List ℕ
-  pub had : IsHad tag_of counters counters' made' page before after bytes
-  pub spelled : block ≡ block_of bytes
