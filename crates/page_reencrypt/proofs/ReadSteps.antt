@@ -1,10 +1,10 @@
 -- The steps of a read of a line: its page's counters are had, and then its place is read.
-use Rattle.std.proofs.Common.{◌≡◌, inl, inr, ℕ, List, ◌++◌, Option, Some, None, Result, Ok, Err, IfOk, refl, ap, sym, ◌∙◌, subst, arith}
+use Rattle.std.proofs.Common.{◌≡◌, inl, inr, ℕ, List, ◌++◌, Option, Some, None, Result, Ok, Err, refl, ap, sym, ◌∙◌, subst, arith}
 use Rattle.std.specs.Result.{result_err}
 use Rattle.std.proofs.lemmas.Option.{same_Some}
 use Rattle.sec_base.specs.declared.counter.Counter.{Counter}
 use Rattle.sec_base.specs.declared.evidence.Evidence.{Evidence}
-use Rattle.sec_base.specs.declared.evidence.Evidence.TheVariants.{Collision, Forgery}
+use Rattle.sec_base.specs.declared.evidence.Evidence.TheVariants.{Forgery}
 use Rattle.sec_base.specs.declared.message.Message.{Message}
 use Rattle.sec_base.specs.declared.place.Place.{Place}
 use Rattle.sec_base.specs.declared.place.Place.TheVariants.{Line as line_place, Node as node_place}
@@ -21,13 +21,11 @@ use Rattle.pad_stream.specs.PadEngine.{PadEngineView}
 use Rattle.checked_bus.specs.Steps.{Moves as StepMoves}
 use Rattle.checked_bus.proofs.Makes.{accesses_on}
 use Rattle.checked_bus.proofs.Steps.{moves_on as step_on}
-use Rattle.split_counter.specs.CounterBlock.{CounterBlockView, counter_of, place_of}
 use Rattle.bonsai_tree.specs.Tree.{IsFetchPlace}
-use Rattle.counter_cache.specs.Counters.{AreHad, CountersView, counters_in}
+use Rattle.counter_cache.specs.Counters.{CountersView, counters_in}
 use Rattle.page_reencrypt.specs.Consistency.{IsConsistent}
 use Rattle.page_reencrypt.specs.Contents.{bytes_of, line_bytes}
 use Rattle.page_reencrypt.specs.Outside.{CountersFit, IsLineRead, IsReadAt, MemoryTerms, OutsideView, terms_of}
-use Rattle.page_reencrypt.specs.SealedLines.{IsReadUnder}
 use Rattle.page_reencrypt.proofs.CountersHad.{IsGot}
 use Rattle.page_reencrypt.proofs.Nodes.{fits_same, not_node}
 use Rattle.page_reencrypt.proofs.Reaching.{HasCome, come_more, path_more, reached_data, shows_on}
@@ -42,15 +40,6 @@ before_line geometry page at counter sealed made_count None after found stays is
 before_line geometry page at counter sealed made_count (Some evidence) after found stays is =
     let same : evidence ≡ Forgery at counter sealed made_count = same_Some evidence (Forgery at counter sealed made_count) (sym (stays evidence refl) ∙ is) in
     not_node geometry page at (subst (λ (e : Evidence). IsFetchPlace geometry page (evidence_place e)) same (found evidence refl))
-
--- and that of a node before
-before_node : (level index made_at line : ℕ) (block tag : List ℕ) (before after : Option Evidence) →
-    ((evidence : Evidence) → before ≡ None → after ≡ Some evidence → evidence_place evidence ≡ line_place line) →
-    ((evidence : Evidence) → before ≡ Some evidence → after ≡ Some evidence) → after ≡ Some (Collision level index made_at block tag) →
-    before ≡ Some (Collision level index made_at block tag)
-before_node level index made_at line block tag None after found stays is =
-    let here : node_place level index ≡ line_place line = found (Collision level index made_at block tag) refl is in absurd (cc)
-before_node level index made_at line block tag (Some evidence) after found stays is = sym (stays evidence refl) ∙ is
 
 module _ {B T : Type 0} (history : B → BusHistory) (moved : B → List Access → B → Type 0) (d n : T → List ℕ → List ℕ) (old : OutsideView B T) (counters : CountersView) (line : ℕ) where
   abbrev terms : MemoryTerms B
@@ -86,17 +75,14 @@ module _ {B T : Type 0} (history : B → BusHistory) (moved : B → List Access 
     shows = got.reached.shows;
     accepted = λ at under sealed made_count quiet is.
         not_node old.engine.geometry (page_of line) at (got.found (Forgery at under sealed made_count) quiet is);
-    accepted_counters = λ made_at block tag quiet is. tt;
-    checked = tt;
     tampered = λ place is. let there = got.tampered place (ap result_err is) in (inr there.0, there.1);
     unspent = λ spent is. got.unspent spent (ap result_err is);
   }
 
   -- they were, and the line was read under its own
 
-  module _ (got : OutsideView B T) (counters' : CountersView) (a : IsGot history moved d n line old counters got counters' None) (block : CounterBlockView)
-      (had : AreHad terms.tag_of counters counters' got.engine.made (page_of line) old.engine.evidence got.engine.evidence block) (counter : Counter)
-      (counter_is : counter ≡ counter_of (place_of line) block) (new : OutsideView B T) (result : Result (List ℕ) MemStop)
+  module _ (got : OutsideView B T) (counters' : CountersView) (a : IsGot history moved d n line old counters got counters' None)
+      (counter : Counter) (new : OutsideView B T) (result : Result (List ℕ) MemStop)
       (read : IsReadAt (terms_of history moved d n got) line counter got new result) where
     r : IsReadAt terms line counter got new result
     r =
@@ -128,9 +114,6 @@ module _ {B T : Type 0} (history : B → BusHistory) (moved : B → List Access 
     read_come =
         come_more terms (page_of line) old got new counters counters' (result_err result) r.step.reads got_quiet r.nodes (λ level index. ap (last_node level index) r.made)
         a.come
-
-    got_under : IfOk result (IsReadUnder terms.tag_of old.pads.key line (counter_of (place_of line) block) (history new.bus))
-    got_under = rw (← counter_is, ← a.first.pads) r.under
 
     pub line_read : ((first second third : B) (before after : List Access) → moved first before second → moved second after third → moved first (before ++ after) third) →
         IsLineRead terms line old counters new counters' result
@@ -174,24 +157,6 @@ module _ {B T : Type 0} (history : B → BusHistory) (moved : B → List Access 
           r.step.evidence is in
           let answered = r.accepted at counter_used sealed made_count still is in
           (answered.0, answered.1, answered.2 ∙ ap (λ (p : PadEngineView). Ok (cipher_of p.key line counter_used sealed.cipher)) a.first.pads);
-      accepted_counters = λ made_at bytes tag quiet is.
-          let before = before_node 0 (page_of line) made_at line bytes tag got.engine.evidence new.engine.evidence r.found r.step.evidence is in
-          rw (← had.had.accepted quiet made_at bytes tag before, ← had.spelled) got_under;
-      checked =
-          if_ok _ _ result (λ bytes read. record {
-            block = block;
-            had = record {
-              bytes = had.bytes;
-              had = record {
-                copy_or_tagged = rw r.made had.had.copy_or_tagged;
-                accepted = λ none made_at there tag is.
-                    had.had.accepted none made_at there tag
-                    (before_node 0 (page_of line) made_at line there tag got.engine.evidence new.engine.evidence r.found r.step.evidence is);
-              };
-              spelled = had.spelled;
-            };
-            read = read;
-          }) got_under;
       tampered = λ place is.
           let there = r.tampered place is in (
             inl there.0,

@@ -3,6 +3,7 @@ use Rattle.std.proofs.Common.{◌≡◌, ◌≢◌, inl, inr, ℕ, ◌+◌, ◌<
 use Rattle.std.specs.Result.{result_err}
 use Rattle.std.proofs.lemmas.List.{length-take-le}
 use Rattle.sec_base.specs.declared.counter.Counter.{Counter}
+use Rattle.sec_base.specs.declared.evidence.Evidence.{Evidence}
 use Rattle.sec_base.specs.declared.message.Message.{Message}
 use Rattle.sec_base.specs.declared.place.Place.TheVariants.{Node as node_place}
 use Rattle.sec_base.specs.declared.stop.MemStop.{MemStop}
@@ -51,11 +52,12 @@ module _ {B T : Type 0} (history : B → BusHistory) (bus_moved : B → List Acc
     refused = Some why;
     had = had;
     ends = λ other is. let same : why ≡ other = cc in (refl, stops ∙ ap (λ (s : MemStop). Err s) same);
-    read = rw stops tt;
     trace = λ goes. absurd (cc);
+    read = λ goes. absurd (cc);
     once = omega arith;
     nodes = λ level index. refl;
     made = refl;
+    first = λ evidence is. is;
   }
 
   pub write_refused : (limit : ℕ) (why : MemStop) (stop : Option MemStop) → stop ≡ Some why → ((page : ℕ) → Some why ≢ Some (spent_page page)) →
@@ -76,22 +78,25 @@ module _ {B T : Type 0} (history : B → BusHistory) (bus_moved : B → List Acc
   }
 
   module _ (had : HadFirst history bus_moved tags line old counters between counters_had None) where
-    pub read_under : (new : OutsideView B T) (answer : Result (List ℕ) MemStop) →
+    pub read_under : (new : OutsideView B T) (answer : Result (List ℕ) MemStop)
+        (trace : MakesAccesses bus_moved (tags between.engine) between.bus between.engine new.bus new.engine (result_err answer)) →
         IfOk answer (IsReadUnder (tags between.engine) between.pads.key line
-        (counter_of (place_of line) (counters_in counters_had between.engine.made (page_of line))) (history new.bus)) →
-        MakesAccesses bus_moved (tags between.engine) between.bus between.engine new.bus new.engine (result_err answer) → (history new.bus).accesses ≤ (history between.bus).accesses + 1 →
+        (counter_of (place_of line) (counters_in counters_had between.engine.made (page_of line))) trace.accesses) →
+        (history new.bus).accesses ≤ (history between.bus).accesses + 1 →
         ((level index : ℕ) → (history new.bus).reads (node_place level index) ≡ (history between.bus).reads (node_place level index)) →
-        new.engine.made ≡ between.engine.made → ReadUnderCounters history bus_moved tags line old counters new counters_had answer
-    read_under new answer read trace once nodes made = record {
+        new.engine.made ≡ between.engine.made → ((evidence : Evidence) → between.engine.evidence ≡ Some evidence → new.engine.evidence ≡ Some evidence) →
+        ReadUnderCounters history bus_moved tags line old counters new counters_had answer
+    read_under new answer trace read once nodes made first = record {
       between = between;
       refused = None;
       had = had;
       ends = λ why is. absurd (cc);
-      read = read;
       trace = λ goes. trace;
+      read = λ goes. read;
       once = once;
       nodes = nodes;
       made = made;
+      first = first;
     }
 
     module _ (limit : ℕ) (foreseen : Bumped)

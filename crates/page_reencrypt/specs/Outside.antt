@@ -4,7 +4,7 @@ use Rattle.std.specs.List.{slice_get}
 use Rattle.std.specs.Result.{result_err}
 use Rattle.sec_base.specs.declared.counter.Counter.{Counter}
 use Rattle.sec_base.specs.declared.evidence.Evidence.{Evidence}
-use Rattle.sec_base.specs.declared.evidence.Evidence.TheVariants.{Collision, Forgery}
+use Rattle.sec_base.specs.declared.evidence.Evidence.TheVariants.{Forgery}
 use Rattle.sec_base.specs.Evidence.{evidence_place}
 use Rattle.sec_base.specs.declared.sealed.Sealed.{Sealed}
 use Rattle.sec_base.specs.declared.geometry.TheConstants.{LINES_PER_PAGE}
@@ -24,12 +24,12 @@ use Rattle.pad_stream.specs.PadEngine.{PadEngineView, with_room as pads_with_roo
 use Rattle.pad_stream.specs.Pads.{AreRising}
 use Rattle.checked_bus.specs.Makes.{MakesAccesses}
 use Rattle.checked_bus.specs.Steps.{IsAccounted, Moves as StepMoves, SameLines}
-use Rattle.split_counter.specs.CounterBlock.{block_of, counter_of, last_counter, next_counter, place_of}
+use Rattle.split_counter.specs.CounterBlock.{last_counter, next_counter, place_of}
 use Rattle.bonsai_tree.specs.Tree.{IsFetchPlace, NodesHoldLast, PathWasRead, UnmadeAreUnread}
 use Rattle.counter_cache.specs.Counters.{CountersView, HoldsCounters, SameCounters, cached_pages, counter_accesses, counters_in}
 use Rattle.page_reencrypt.specs.Consistency.{IsConsistent}
 use Rattle.page_reencrypt.specs.Contents.{HoldsLast, NodesSay, counter_in, line_bytes, lines_encrypted, never_written}
-use Rattle.page_reencrypt.specs.SealedLines.{AreReread, CopiesCame, IsBeside, KeepsFew, IsOfPage, IsReadByCounters, IsReadUnder, SealedLinesView}
+use Rattle.page_reencrypt.specs.SealedLines.{AreReread, CopiesCame, IsBeside, KeepsFew, IsOfPage, IsReadUnder, SealedLinesView}
 use Rattle.page_reencrypt.specs.Stops.{lasting_stop}
 
 -- the bus, the tag engine and the pads
@@ -159,7 +159,7 @@ module _ {B T : Type 0} (terms : MemoryTerms B) where
     pub accounted : AreAccounted old None → AreAccounted new (result_err result)
     pub shows : ShowsLies old new
     pub found : (evidence : Evidence) → old.engine.evidence ≡ None → new.engine.evidence ≡ Some evidence → evidence_place evidence ≡ line_place line
-    pub under : IfOk result (IsReadUnder terms.tag_of old.pads.key line counter (terms.history new.bus))
+    pub under : IfOk result (IsReadUnder terms.tag_of old.pads.key line counter trace.accesses)
     pub accepted : (at : ℕ) (accepted_under : Counter) (sealed : Sealed) (made_count : ℕ) → old.engine.evidence ≡ None →
         new.engine.evidence ≡ Some (Forgery at accepted_under sealed made_count) →
         (at ≡ line) × (made_count ≡ length new.engine.made) × (result ≡ Ok (cipher_of old.pads.key line accepted_under sealed.cipher))
@@ -204,12 +204,6 @@ module _ {B T : Type 0} (terms : MemoryTerms B) where
     pub accepted : (at : ℕ) (under : Counter) (sealed : Sealed) (made_count : ℕ) → old.engine.evidence ≡ None →
         new.engine.evidence ≡ Some (Forgery at under sealed made_count) →
         (at ≡ line) × (made_count ≡ length new.engine.made) × (result ≡ Ok (cipher_of old.pads.key line under sealed.cipher))
-    pub accepted_counters : (made_at : ℕ) (block tag : List ℕ) → old.engine.evidence ≡ None →
-        new.engine.evidence ≡ Some (Collision 0 (page_of line) made_at block tag) →
-        IfOk result (IsReadUnder terms.tag_of old.pads.key line (counter_of (place_of line) (block_of block)) (terms.history new.bus))
-    -- whatever was answered, the counters were those of a copy, or of a block that was checked
-    pub checked : IfOk result (IsReadByCounters terms.tag_of old.pads.key counters counters' new.engine.made line old.engine.evidence new.engine.evidence
-        (terms.history new.bus))
     pub tampered : (place : Place) → result ≡ Err (Tampered place) → ((place ≡ line_place line) ⊎ IsFetchPlace terms.geometry (page_of line) place)
         × (old.engine.evidence ≡ None → Rose (terms.history old.bus).lies (terms.history new.bus).lies)
     pub unspent : (page : ℕ) → result ≢ Err (Spent page)

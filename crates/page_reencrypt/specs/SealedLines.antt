@@ -1,5 +1,5 @@
 -- What contracts see of the lines outside, and what calls make of them.
-use Rattle.std.specs.Prelude.{◌≡◌, ◌≢◌, ◌⊎◌, ◌↔◌, ℕ, ◌+◌, ◌<◌, ◌≤◌, List, [], ◌++◌, length, Option, Some, None, Contains, replicate, false}
+use Rattle.std.specs.Prelude.{◌≡◌, ◌≢◌, ◌⊎◌, ◌↔◌, ℕ, ◌+◌, ◌<◌, ◌≤◌, List, [], ◌∷◌, ◌++◌, length, Option, Some, None, Contains, replicate, false}
 use Rattle.sec_base.specs.declared.place.Place.{Place}
 use Rattle.sec_base.specs.declared.place.Place.TheVariants.{Line as line_place}
 use Rattle.sec_base.specs.declared.counter.Counter.{Counter}
@@ -13,8 +13,8 @@ use Rattle.sec_base.specs.Count.{Rose}
 use Rattle.sec_base.specs.Evidence.{sealed_bytes}
 use Rattle.sec_base.specs.LastMessage.{IsFresh, last_data, data_pairs}
 use Rattle.sec_base.specs.Geometry.{GeometryView, line_count, page_count, page_of}
-use Rattle.bus_model.specs.Access.{Access}
-use Rattle.bus_model.specs.BusHistory.{BusHistory, after_read}
+use Rattle.bus_model.specs.Access.{Access, Read}
+use Rattle.bus_model.specs.BusHistory.{BusHistory}
 use Rattle.tag_engine.specs.TagEngine.{TagEngineView, tags_of}
 use Rattle.pad_stream.specs.Pad.{cipher_of}
 use Rattle.pad_stream.specs.PadEngine.{PadEngineView}
@@ -25,7 +25,7 @@ use Rattle.checked_bus.specs.Makes.{MakesAccesses}
 use Rattle.bonsai_tree.specs.Node.{CachedNode, no_tag, page_block}
 use Rattle.bonsai_tree.specs.NodeCache.{most_copies}
 use Rattle.bonsai_tree.specs.Tree.{CameUnlessHeld, IsTree, NodesHoldLast, PathWasRead, WasReadUp, cached_node, cached_nodes}
-use Rattle.counter_cache.specs.Counters.{AreHad, BlocksCameUnlessHeld, CameFrom, CountersView, cached_block, cached_pages, counters_in, most_blocks}
+use Rattle.counter_cache.specs.Counters.{BlocksCameUnlessHeld, CameFrom, CountersView, cached_block, cached_pages, counters_in, most_blocks}
 use Rattle.page_reencrypt.specs.Consistency.{IsConsistent}
 use Rattle.page_reencrypt.specs.Contents.{AreSuccessive, ArePaged, AreWithin, HoldsLast, IsSpent, NodesSay, contents_of, counter_in, never_written}
 use Rattle.page_reencrypt.specs.Stops.{lasting_stop}
@@ -209,20 +209,13 @@ pub record WasRead {B T : Type 0} (history : B → BusHistory) (old : SealedLine
   pub read : lasting_stop new.stopped ≡ None → IsQuiet new →
       (last_data line (made old) ≡ None) ⊎ Rose ((history old.bus).reads (line_place line)) ((history new.bus).reads (line_place line))
 
--- The bytes are those that a line was read as under a counter: zeros, where that is the counter of a line that was never
--- written; else what its place answered last, with the tag of its message, as it was decrypted.
-abbrev pub IsReadUnder : (Message → List ℕ) → List ℕ → ℕ → Counter → BusHistory → List ℕ → Type 0
-IsReadUnder tag_of key line counter new bytes = ((counter ≡ never_written) × (bytes ≡ replicate 64 0))
-    ⊎ ((before : BusHistory) × (sealed : Sealed) × (sealed.tag ≡ tag_of (Line line counter sealed.cipher))
-    × (new ≡ after_read (line_place line) (sealed_bytes sealed) before) × (bytes ≡ cipher_of key line counter sealed.cipher))
-
--- The bytes are those that a line was read as under counters of its page that were had: those of the page's copy or, where it
--- had none, of a block with the tag that the tree keeps, or of zeros where it keeps none.
-pub record IsReadByCounters (tag_of : Message → List ℕ) (key : List ℕ) (counters counters' : CountersView) (made' : List Message) (line : ℕ)
-    (before after : Option Evidence) (new : BusHistory) (bytes : List ℕ) : Type 0 where
-  pub block : CounterBlockView
-  pub had : AreHad tag_of counters counters' made' (page_of line) before after block
-  pub read : IsReadUnder tag_of key line (counter_of (place_of line) block) new bytes
+-- The bytes are those that a line was read as under a counter, by these accesses: zeros, without an access, where that is the
+-- counter of a line that was never written; else what its place answered to one read, with the tag of its message, as it was
+-- decrypted.
+abbrev pub IsReadUnder : (Message → List ℕ) → List ℕ → ℕ → Counter → List Access → List ℕ → Type 0
+IsReadUnder tag_of key line counter accesses bytes = ((counter ≡ never_written) × (accesses ≡ []) × (bytes ≡ replicate 64 0))
+    ⊎ ((counter ≢ never_written) × (sealed : Sealed) × (sealed.tag ≡ tag_of (Line line counter sealed.cipher))
+    × (accesses ≡ Read (line_place line) (sealed_bytes sealed) ∷ []) × (bytes ≡ cipher_of key line counter sealed.cipher))
 
 -- Of these lines each that was written before was read from its place, but for the line that is written.
 abbrev pub AreReread : ℕ → List ℕ → List (ℕ × Counter) → BusHistory → BusHistory → Type 0

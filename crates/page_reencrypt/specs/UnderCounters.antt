@@ -3,6 +3,7 @@ use Rattle.std.specs.Prelude.{◌≡◌, ◌≢◌, ◌⊎◌, ℕ, ◌+◌, ◌
 use Rattle.std.specs.Result.{result_err}
 use Rattle.sec_base.specs.Geometry.{page_of}
 use Rattle.sec_base.specs.declared.counter.Counter.{Counter}
+use Rattle.sec_base.specs.declared.evidence.Evidence.{Evidence}
 use Rattle.sec_base.specs.declared.message.Message.{Message}
 use Rattle.sec_base.specs.declared.place.Place.TheVariants.{Node as node_place}
 use Rattle.sec_base.specs.declared.stop.MemStop.{MemStop}
@@ -42,13 +43,16 @@ module _ {B T : Type 0} (history : B → BusHistory) (bus_moved : B → List Acc
     pub refused : Option MemStop
     pub had : HadFirst line old counters between counters' refused
     pub ends : (why : MemStop) → refused ≡ Some why → (new ≡ between) × (answer ≡ Err why)
-    pub read : IfOk answer (IsReadUnder (tags between.engine) between.pads.key line
-        (counter_of (place_of line) (counters_in counters' between.engine.made (page_of line))) (history new.bus))
+    -- the accesses that it made once its counters were had
     pub trace : refused ≡ None →
         MakesAccesses bus_moved (tags between.engine) between.bus between.engine new.bus new.engine (result_err answer)
+    pub read : (going : refused ≡ None) → IfOk answer (IsReadUnder (tags between.engine) between.pads.key line
+        (counter_of (place_of line) (counters_in counters' between.engine.made (page_of line))) (trace going).accesses)
     pub once : (history new.bus).accesses ≤ (history between.bus).accesses + 1
     pub nodes : (level index : ℕ) → (history new.bus).reads (node_place level index) ≡ (history between.bus).reads (node_place level index)
     pub made : new.engine.made ≡ between.engine.made
+    -- the first evidence stays
+    pub first : (evidence : Evidence) → between.engine.evidence ≡ Some evidence → new.engine.evidence ≡ Some evidence
 
   -- A write was counted by the copy of its page's counters, and lines were encrypted under the counter that it came to: a front
   -- part of those that it encrypts. No other message was made.

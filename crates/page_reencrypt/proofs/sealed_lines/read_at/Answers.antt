@@ -1,15 +1,15 @@
-use Rattle.std.proofs.Common.{◌≡◌, ℕ, List, Some, None, Contains, Result, Err, IfOk, OnOk, refl, ap, sym, ◌∙◌, subst, rules}
+use Rattle.std.proofs.Common.{◌≡◌, ℕ, List, Some, None, Contains, Result, Err, IfOk, OnOk, refl, sym, subst, rules}
 use Rattle.sec_base.specs.declared.counter.Counter.{Counter}
 use Rattle.sec_base.specs.declared.stop.MemStop.{MemStop}
 use Rattle.sec_base.specs.Geometry.{page_of}
 use Rattle.sec_base.proofs.Results.{on_success, was_none}
 use Rattle.tag_engine.specs.TagEngine.{tags_of}
 use Rattle.pad_stream.specs.Pads.{AreRising}
-use Rattle.split_counter.specs.CounterBlock.{bumped, counter_of, place_of}
-use Rattle.counter_cache.specs.Counters.{cached_pages, counters_in}
+use Rattle.split_counter.specs.CounterBlock.{bumped}
+use Rattle.counter_cache.specs.Counters.{cached_pages}
 use Rattle.page_reencrypt.specs.Outside.{HasCounter, IsLineRead, terms_of}
 use Rattle.page_reencrypt.specs.SealedLines.{IsReadUnder}
-use Rattle.page_reencrypt.proofs.CountersHad.{got_by, got_cached, got_checked}
+use Rattle.page_reencrypt.proofs.CountersHad.{got_by, got_cached}
 use Rattle.page_reencrypt.proofs.NextWrites.{IsForeseen, counter_here, foreseen_of}
 use Rattle.page_reencrypt.proofs.ReadSteps.{line_read, unread}
 use Rattle.page_reencrypt.proofs.UnderCounters.{counter_by, read_refused, read_under}
@@ -73,19 +73,13 @@ returns g c =
     let r = c.read.ensures.read in
     let got = got_by h m d n c.args.line old counters c.get.new.self c.get.new.counters c.page_of.result None c.page_of.ensures.page c.requires.geometry
     c.requires.fits e.step e.had e.pads (e.nodes c.requires.pages c.requires.fits c.requires.current) in
-    let answer : c.in_ok-block.block ≡ counters_in c.get.new.counters c.get.new.self.engine.made (page_of c.args.line) =
-    e.answer ∙ ap (counters_in c.get.new.counters c.get.new.self.engine.made) c.page_of.ensures.page in
-    let by : c.get-2.result ≡ counter_of (place_of c.args.line) c.in_ok-block.block =
-    c.get-2.ensures.counter ∙ ap (λ (p : ℕ). counter_of p c.in_ok-block.block) c.place_of.ensures.place in
     record {
-      read = line_read h m d n old counters c.args.line c.get.new.self c.get.new.counters got c.in_ok-block.block
-          (got_checked h m d n c.args.line old counters c.get.new.self c.get.new.counters got.first c.in_ok-block.block answer) c.get-2.result by c.read.new.self c.read.result r
-          g.met.B.Bus.moved_on;
-      under = read_under h m (tags_of d n) c.args.line old counters c.get.new.self c.get.new.counters got.first c.read.new.self c.read.result
-          (subst (λ (k : Counter). IfOk c.read.result (IsReadUnder (tags_of d n c.get.new.self.engine) c.get.new.self.pads.key c.args.line k (h c.read.new.self.bus)))
+      read = line_read h m d n old counters c.args.line c.get.new.self c.get.new.counters got c.get-2.result c.read.new.self c.read.result r g.met.B.Bus.moved_on;
+      under = read_under h m (tags_of d n) c.args.line old counters c.get.new.self c.get.new.counters got.first c.read.new.self c.read.result r.trace
+          (subst (λ (k : Counter). IfOk c.read.result (IsReadUnder (tags_of d n c.get.new.self.engine) c.get.new.self.pads.key c.args.line k r.trace.accesses))
           (counter_by c.get.new.counters c.get.new.self.engine.made c.args.line c.page_of.result c.place_of.result c.in_ok-block.block c.get-2.result
           c.page_of.ensures.page c.place_of.ensures.place e.answer c.get-2.ensures.counter) r.under)
-          r.trace r.once r.nodes r.made;
+          r.once r.nodes r.made r.step.evidence;
       cached = on_success c.read.result (λ none. got_cached h m d n c.args.line old counters c.get.new.self c.get.new.counters got.first);
       pages = e.pages;
     }

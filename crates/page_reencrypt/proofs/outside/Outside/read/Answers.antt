@@ -32,8 +32,7 @@ returns-in_err-cipher g c =
     let is : c.from_residual.result ≡ Err c.in_err-cipher.field-0.0 = search rules in
     record {
       read = rw (← c.self.view_is, is)
-          (checked_read h m d n old c.args.line c.args.counter kept last rose inside had some c.read_line-cipher.new.bus c.read_line-cipher.new.tags (Err c.in_err-cipher.field-0.0)
-          r.read (record { accesses = r.makes.0; moved = r.makes.1; has = r.makes.2.makes.has }) r.moves r.once r.others r.honest r.known r.tampered r.shown r.unspent);
+          (checked_read h m d n old c.args.line c.args.counter kept last rose inside had some c.read_line-cipher.new.bus c.read_line-cipher.new.tags (Err c.in_err-cipher.field-0.0) r.reads);
     }
 
 pub returns : goal.returns
@@ -55,6 +54,5 @@ returns g c =
           (subst (λ (bytes : List ℕ). IsReadAt (terms_of h m d n old) c.args.line c.args.counter old
           (let o : OutsideView g.row.B.Denot g.row.T.Denot = record { bus = c.read_line-cipher.new.bus; engine = c.read_line-cipher.new.tags; pads = c.self.inside.pads } in o) (Ok bytes))
           (sym c.decrypt.ensures.plain)
-          (checked_read h m d n old c.args.line c.args.counter kept last rose inside had some c.read_line-cipher.new.bus c.read_line-cipher.new.tags (Ok c.in_ok-cipher.field-0)
-          r.read (record { accesses = r.makes.0; moved = r.makes.1; has = r.makes.2.makes.has }) r.moves r.once r.others r.honest r.known r.tampered r.shown r.unspent));
+          (checked_read h m d n old c.args.line c.args.counter kept last rose inside had some c.read_line-cipher.new.bus c.read_line-cipher.new.tags (Ok c.in_ok-cipher.field-0) r.reads));
     }
