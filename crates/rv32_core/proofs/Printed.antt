@@ -5,12 +5,11 @@ use Rattle.std.proofs.lemmas.List.{append-nil, drop-drop, length-append, length-
 use Rattle.sec_base.specs.Sink.{Gains, IsSilent, SinkState}
 use Rattle.sec_base.specs.declared.stop.MemStop.{MemStop}
 use Rattle.sec_base.proofs.Writes.{gains_both, written_after-nil}
-use Rattle.sha2.specs.Hashers.{Holds256}
-use Rattle.sha2.specs.declared.Sha256.{Sha256}
 use Rattle.rv32_core.specs.Outcome.{IsCutShort}
 use Rattle.rv32_core.specs.Print.{StopsAs}
-use Rattle.rv32_core.specs.Printing.{Digests, Prints}
+use Rattle.rv32_core.specs.Printing.{Digests, HoldsTaken, Prints}
 use Rattle.rv32_core.specs.State.{memory_bytes}
+use Rattle.rv32_core.specs.declared.taken.Taken.{Taken}
 
 pub bytes_length : (memory : List ℕ) (from n : ℕ) → from + n ≤ length memory → length (memory_bytes memory from n) ≡ n
 bytes_length memory from n inside =
@@ -62,56 +61,56 @@ pub none_from_ok : (stopped : Option MemStop) (x : Unit {0}) → StopsAs stopped
 none_from_ok None x h = refl
 none_from_ok (Some stop) x h = cc
 
--- What the sink and the digest take
+-- What the sink takes, and what is digested and counted
 
-pub digests_nothing : (digest : Sha256) → Digests digest [] digest
-digests_nothing digest held holds = subst (λ (bytes : List ℕ). Holds256 digest bytes) (sym (append-nil held)) holds
+pub digests_nothing : (taken : Taken) → Digests taken [] taken
+digests_nothing taken held holds = subst (λ (bytes : List ℕ). HoldsTaken taken bytes) (sym (append-nil held)) holds
 
-pub digests_nothing_as : (digest digest' : Sha256) → digest' ≡ digest → Digests digest [] digest'
-digests_nothing_as digest digest' same = subst (λ (d : Sha256). Digests digest [] d) (sym same) (digests_nothing digest)
+pub digests_nothing_as : (taken taken' : Taken) → taken' ≡ taken → Digests taken [] taken'
+digests_nothing_as taken taken' same = subst (λ (d : Taken). Digests taken [] d) (sym same) (digests_nothing taken)
 
-pub digests_both : (first more : List ℕ) (digest digest' digest'' : Sha256) → Digests digest first digest' → Digests digest' more digest'' → Digests digest (first ++ more) digest''
-digests_both first more digest digest' digest'' before after held holds =
-    subst (λ (bytes : List ℕ). Holds256 digest'' bytes) (append_assoc held first more) (after (held ++ first) (before held holds))
+pub digests_both : (first more : List ℕ) (taken taken' taken'' : Taken) → Digests taken first taken' → Digests taken' more taken'' → Digests taken (first ++ more) taken''
+digests_both first more taken taken' taken'' before after held holds =
+    subst (λ (bytes : List ℕ). HoldsTaken taken'' bytes) (append_assoc held first more) (after (held ++ first) (before held holds))
 
-pub prints_nothing : (out : SinkState) (digest : Sha256) → Prints out digest [] out digest
-prints_nothing out digest = (sym (written_after-nil out.written), digests_nothing digest)
+pub prints_nothing : (out : SinkState) (taken : Taken) → Prints out taken [] out taken
+prints_nothing out taken = (sym (written_after-nil out.written), digests_nothing taken)
 
-pub prints_nothing_as : (out : SinkState) (digest digest' : Sha256) → digest' ≡ digest → Prints out digest [] out digest'
-prints_nothing_as out digest digest' same = subst (λ (d : Sha256). Prints out digest [] out d) (sym same) (prints_nothing out digest)
+pub prints_nothing_as : (out : SinkState) (taken taken' : Taken) → taken' ≡ taken → Prints out taken [] out taken'
+prints_nothing_as out taken taken' same = subst (λ (d : Taken). Prints out taken [] out d) (sym same) (prints_nothing out taken)
 
 -- bytes, and then more
-pub prints_both : (first more : List ℕ) (old mid new : SinkState) (digest digest' digest'' : Sha256) → Prints old digest first mid digest' → Prints mid digest' more new digest'' → Prints old digest (first ++ more) new digest''
-prints_both first more old mid new digest digest' digest'' before after = (
+pub prints_both : (first more : List ℕ) (old mid new : SinkState) (taken taken' taken'' : Taken) → Prints old taken first mid taken' → Prints mid taken' more new taken'' → Prints old taken (first ++ more) new taken''
+prints_both first more old mid new taken taken' taken'' before after = (
   gains_both first more old mid new before.0 after.0,
   λ held holds.
-      subst (λ (bytes : List ℕ). Holds256 digest'' bytes) (append_assoc held first more)
+      subst (λ (bytes : List ℕ). HoldsTaken taken'' bytes) (append_assoc held first more)
       (after.1 (held ++ first) (before.1 held holds)),
 )
 
 -- up to the rest, a piece was printed
-pub record IsPrintedUpTo (old new : SinkState) (digest digest' : Sha256) (whole rest : List ℕ) : Type 0 where
+pub record IsPrintedUpTo (old new : SinkState) (taken taken' : Taken) (whole rest : List ℕ) : Type 0 where
   pub front : List ℕ
   pub parts : whole ≡ front ++ rest
-  pub prints : Prints old digest front new digest'
+  pub prints : Prints old taken front new taken'
   pub faults : old.faults ≤ new.faults
 
-pub piece_begins : (old : SinkState) (digest : Sha256) (whole : List ℕ) → IsPrintedUpTo old old digest digest whole whole
-piece_begins old digest whole = record { front = []; parts = refl; prints = prints_nothing old digest; faults = omega arith }
+pub piece_begins : (old : SinkState) (taken : Taken) (whole : List ℕ) → IsPrintedUpTo old old taken taken whole whole
+piece_begins old taken whole = record { front = []; parts = refl; prints = prints_nothing old taken; faults = omega arith }
 
-pub piece_goes_on : (old mid new : SinkState) (digest digest' digest'' : Sha256) (whole rest : List ℕ) (n : ℕ) → IsPrintedUpTo old mid digest digest' whole rest → Gains mid (take n rest) new → Digests digest' (take n rest) digest'' → mid.faults ≤ new.faults → IsPrintedUpTo old new digest digest'' whole (drop n rest)
-piece_goes_on old mid new digest digest' digest'' whole rest n before gains digests faults =
+pub piece_goes_on : (old mid new : SinkState) (taken taken' taken'' : Taken) (whole rest : List ℕ) (n : ℕ) → IsPrintedUpTo old mid taken taken' whole rest → Gains mid (take n rest) new → Digests taken' (take n rest) taken'' → mid.faults ≤ new.faults → IsPrintedUpTo old new taken taken'' whole (drop n rest)
+piece_goes_on old mid new taken taken' taken'' whole rest n before gains digests faults =
     let was = before.faults in
     record {
       front = before.front ++ take n rest;
       parts = before.parts ∙ ap (λ (xs : List ℕ). before.front ++ xs) (sym (take-append-drop n rest)) ∙ sym (append_assoc before.front (take n rest) (drop n rest));
-      prints = prints_both before.front (take n rest) old mid new digest digest' digest'' before.prints (gains, digests);
+      prints = prints_both before.front (take n rest) old mid new taken taken' taken'' before.prints (gains, digests);
       faults = omega arith;
     }
 
 -- the sink stopped, where something was left
-pub piece_stopped : (old mid new : SinkState) (digest digest' : Sha256) (whole rest : List ℕ) → IsPrintedUpTo old mid digest digest' whole rest → IsSilent mid new → 0 < length rest → (printed : List ℕ) × Prints old digest printed new digest' × IsCutShort printed whole
-piece_stopped old mid new digest digest' whole rest before silent left = (
+pub piece_stopped : (old mid new : SinkState) (taken taken' : Taken) (whole rest : List ℕ) → IsPrintedUpTo old mid taken taken' whole rest → IsSilent mid new → 0 < length rest → (printed : List ℕ) × Prints old taken printed new taken' × IsCutShort printed whole
+piece_stopped old mid new taken taken' whole rest before silent left = (
   before.front,
   (silent ∙ before.prints.0, before.prints.1),
   (
@@ -122,6 +121,6 @@ piece_stopped old mid new digest digest' whole rest before silent left = (
 )
 
 -- nothing is left
-pub piece_done : (old new : SinkState) (digest digest' : Sha256) (whole rest : List ℕ) → IsPrintedUpTo old new digest digest' whole rest → rest ≡ [] → (printed : List ℕ) × Prints old digest printed new digest' × (printed ≡ whole)
-piece_done old new digest digest' whole rest before none =
+pub piece_done : (old new : SinkState) (taken taken' : Taken) (whole rest : List ℕ) → IsPrintedUpTo old new taken taken' whole rest → rest ≡ [] → (printed : List ℕ) × Prints old taken printed new taken' × (printed ≡ whole)
+piece_done old new taken taken' whole rest before none =
     (before.front, before.prints, sym (before.parts ∙ ap (λ (xs : List ℕ). before.front ++ xs) none ∙ append-nil before.front))

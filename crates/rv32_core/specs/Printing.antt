@@ -1,18 +1,23 @@
--- What is printed, as the sink and the digest take it.
-use Rattle.std.specs.Prelude.{◌≡◌, ◌≢◌, ℕ, List, ◌++◌, Result, Err}
+-- What is printed, as the sink takes it, and as it is digested and counted.
+use Rattle.std.specs.Prelude.{◌≡◌, ◌≢◌, ℕ, List, ◌++◌, length, Result, Err}
 use Rattle.sha2.specs.Hashers.{Holds256}
-use Rattle.sha2.specs.declared.Sha256.{Sha256}
+use Rattle.sec_base.specs.Count.{more_by}
 use Rattle.sec_base.specs.Sink.{SinkState, Gains}
 use Rattle.rv32_core.specs.declared.step.StepStop.{StepStop}
 use Rattle.rv32_core.specs.declared.step.StepStop.TheVariants.{WriteFault}
+use Rattle.rv32_core.specs.declared.taken.Taken.{Taken}
 
--- the digest took these bytes behind those that it held
-abbrev pub Digests : Sha256 → List ℕ → Sha256 → Type 0
-Digests old bytes new = (held : List ℕ) → Holds256 old held → Holds256 new (held ++ bytes)
+-- what was taken is these bytes: the digest is theirs, and the count says how many they are, up to 2 ^ 64 - 1
+abbrev pub HoldsTaken : Taken → List ℕ → Type 0
+HoldsTaken taken bytes = Holds256 taken.digest bytes × (taken.count ≡ more_by (length bytes) 0)
 
--- the sink gained these bytes and nothing else, and the digest took them
-abbrev pub Prints : SinkState → Sha256 → List ℕ → SinkState → Sha256 → Type 0
-Prints out digest printed out' digest' = Gains out printed out' × Digests digest printed digest'
+-- these bytes were digested and counted behind those that were taken before
+abbrev pub Digests : Taken → List ℕ → Taken → Type 0
+Digests old bytes new = (held : List ℕ) → HoldsTaken old held → HoldsTaken new (held ++ bytes)
+
+-- the sink gained these bytes and nothing else, and they were digested and counted
+abbrev pub Prints : SinkState → Taken → List ℕ → SinkState → Taken → Type 0
+Prints out taken printed out' taken' = Gains out printed out' × Digests taken printed taken'
 
 -- no write of the sink failed, unless that stopped the call
 abbrev pub KeepsFaults : {A : Type 0} → Result A StepStop → SinkState → SinkState → Type 0

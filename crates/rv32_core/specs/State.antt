@@ -1,6 +1,6 @@
 -- What a program can see of the machine that runs it (RISC-V unprivileged manual, RV32I, 2.1).
 use Rattle.std.specs.Prelude.{ℕ, ◌+◌, ◌-◌, ◌%◌, ◌^◌, List, ◌++◌, length, take, drop, replicate, slice_index, slice_set, ◌==◌, if◌then◌else◌}
-use Rattle.sha2.specs.declared.Sha256.{Sha256}
+use Rattle.rv32_core.specs.declared.taken.Taken.{Taken}
 
 -- the core: its program counter and its 32 registers
 pub record CoreView : Type 0 where
@@ -14,10 +14,10 @@ pub record ServicesView : Type 0 where
   pub first_break : ℕ
   pub brk : ℕ
 
--- these, and the running digest of what the sink took, which no program sees
+-- these, and what the sink took, which no program sees
 pub record CallsView : Type 0 where
   pub services : ServicesView
-  pub digest : Sha256
+  pub taken : Taken
 
 -- What the plain machine is between two instructions.
 pub record State : Type 0 where

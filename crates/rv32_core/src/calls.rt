@@ -1,22 +1,23 @@
 ghost use Rattle.std.specs.Prelude.{◌≡◌, ◌+◌, ◌≤◌, ℕ, List, [], All, length, if◌then◌else◌};
 ghost use Rattle.sha2.specs.Hashers.{Holds256};
 ghost use Rattle.sha2.specs.Sha256.{sha256};
+ghost use Rattle.sec_base.specs.Count.{more_by};
 ghost use Rattle.sec_base.specs.Segment.{IsSegment};
 ghost use Rattle.sec_base.specs.Opening.{first_break as break_after, segments_end as end_of};
 
+use crate::taken::Taken;
 use sec_base::{Image, Segment};
-use sha2::{Digest, Sha256};
 use std::marker::Model;
 
-/// What the services know of a run: its input, how much of it was read, and the program's break. With it goes the
-/// running digest of what the sink took.
+/// What the services know of a run: its input, how much of it was read, and the program's break. With it goes what the
+/// sink took.
 #[derive(Drop)]
 pub struct Calls<'a> {
     input: &'a [u8],
     position: usize,
     first_break: u32,
     brk: u32,
-    digest: Sha256,
+    taken: Taken,
 }
 
 impl<'a> Model for Calls<'a> {
@@ -32,7 +33,7 @@ impl<'a> Model for Calls<'a> {
         first_break = calls.first_break;
         brk = calls.brk;
       };
-      digest = calls.digest;
+      taken = calls.taken;
     } };
 
     ghost invariant = { λ calls. calls.position ≤ length calls.input.now };
@@ -40,13 +41,13 @@ impl<'a> Model for Calls<'a> {
 
 impl<'a> Calls<'a> {
     ghost use Rattle.rv32_core.specs.Machine.{opening_calls};
-    ghost use Rattle.rv32_core.specs.Printing.{Digests};
+    ghost use Rattle.rv32_core.specs.Printing.{Digests, HoldsTaken};
     ghost use Rattle.rv32_core.specs.Services.{next_input, with_position, is_break, with_break};
 
     /// The services of a program that begins with this input. The sink took nothing yet.
     pub fn new(input: &'a [u8], image: &Image) -> Calls<'a>
         ensures services { result.services ≡ opening_calls image.now.segments input.now }
-        ensures digest { Holds256 result.digest [] }
+        ensures nothing_taken { HoldsTaken result.taken [] }
     {
         let first_break = first_break(image);
         Calls {
@@ -54,30 +55,40 @@ impl<'a> Calls<'a> {
             position: 0,
             first_break,
             brk: first_break,
-            digest: Sha256::new(),
+            taken: Taken::new(),
         }
     }
 
     /// The SHA-256 of what the sink took.
     pub fn finish(self) -> [u8; 32]
-        ensures { (taken : List ℕ) → Holds256 self.entry.digest taken → result ≡ sha256 taken }
+        ensures { (bytes : List ℕ) → Holds256 self.entry.taken.digest bytes →
+            result ≡ sha256 bytes }
     {
         let Calls {
             input: _,
             position: _,
             first_break: _,
             brk: _,
-            digest,
+            taken,
         } = self;
-        digest.finalize()
+        taken.finish()
+    }
+
+    /// How many bytes the sink took. The count stands still at 2^64 - 1.
+    pub fn printed(&self) -> u64
+        ensures count { result ≡ self.now.taken.count }
+        ensures bytes { (bytes : List ℕ) → HoldsTaken self.now.taken bytes →
+            result ≡ more_by (length bytes) 0 }
+    {
+        self.taken.count()
     }
 
     /// The sink took these bytes.
     pub(crate) fn digest(&mut self, bytes: &[u8])
         ensures services { self.new.services ≡ self.old.services }
-        ensures digest { Digests self.old.digest bytes.now self.new.digest }
+        ensures digest { Digests self.old.taken bytes.now self.new.taken }
     {
-        self.digest.update(bytes);
+        self.taken.add(bytes);
     }
 
     /// The next bytes of the input, at most so many.
@@ -95,7 +106,7 @@ impl<'a> Calls<'a> {
         requires { self.old.services.position + count ≤ length self.old.services.input }
         ensures services { self.new.services
             ≡ with_position self.old.services (self.old.services.position + count) }
-        ensures digest { self.new.digest ≡ self.old.digest }
+        ensures taken { self.new.taken ≡ self.old.taken }
     {
         self.position += count;
     }
@@ -105,7 +116,7 @@ impl<'a> Calls<'a> {
         ensures answer { result
             ≡ (if is_break self.old.services size address then address else self.old.services.brk) }
         ensures moved { self.new.services ≡ with_break self.old.services result }
-        ensures digest { self.new.digest ≡ self.old.digest }
+        ensures taken { self.new.taken ≡ self.old.taken }
     {
         if self.first_break <= address && u64::from(address) + 4096 <= u64::from(size) {
             self.brk = address;

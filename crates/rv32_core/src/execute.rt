@@ -35,8 +35,8 @@ impl Core {
         requires { IsInst inst.now }
 
         ensures outcome { let before = state_of self.old calls.old.services (M.contents ram.old) in
-            (printed : List ℕ) × Prints (S.state out.old) calls.old.digest printed (S.state out.new)
-            calls.new.digest
+            (printed : List ℕ) × Prints (S.state out.old) calls.old.taken printed (S.state out.new)
+            calls.new.taken
             × (IsReliable M.stopped M.sound ram.old ram.new →
             IsOutcome (effect inst.now.op inst.now before) result before
             (state_of self.new calls.new.services (M.contents ram.new)) printed) }

@@ -13,6 +13,7 @@ mod print;
 mod processor;
 mod services;
 mod step;
+mod taken;
 mod transfer;
 
 pub use calls::Calls;

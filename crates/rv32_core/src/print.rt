@@ -24,7 +24,7 @@ pub fn print<M: Ram, S: Sink>(
     requires fits { 0 < count → from + count < 2 ^ 32 }
 
     ensures printed { (printed : List ℕ)
-        × Prints (S.state out.old) calls.old.digest printed (S.state out.new) calls.new.digest
+        × Prints (S.state out.old) calls.old.taken printed (S.state out.new) calls.new.taken
         × (IsReliable M.stopped M.sound ram.old ram.new →
         IsPrinted result (memory_bytes (M.contents ram.old) from count) printed) }
     ensures contents { IsReliable M.stopped M.sound ram.old ram.new →
@@ -73,7 +73,7 @@ fn print_piece<M: Ram, S: Sink>(
     requires short { count ≤ 64 }
 
     ensures printed { (printed : List ℕ)
-        × Prints (S.state out.old) calls.old.digest printed (S.state out.new) calls.new.digest
+        × Prints (S.state out.old) calls.old.taken printed (S.state out.new) calls.new.taken
         × (IsReliable M.stopped M.sound ram.old ram.new →
         IsPrinted result (memory_bytes (M.contents ram.old) from count) printed) }
     ensures contents { IsReliable M.stopped M.sound ram.old ram.new →
@@ -96,10 +96,10 @@ fn print_piece<M: Ram, S: Sink>(
     Ok(())
 }
 
-// Writes a piece, in as many writes as the sink takes, and digests what it took: after an error a front part of it.
+// Writes a piece in as many writes as the sink takes, and digests and counts what it took: a front part after an error.
 fn write_piece<S: Sink>(calls: &mut Calls, out: &mut S, piece: &[u8]) -> Result<(), StepStop>
     ensures printed { (printed : List ℕ)
-        × Prints (S.state out.old) calls.old.digest printed (S.state out.new) calls.new.digest
+        × Prints (S.state out.old) calls.old.taken printed (S.state out.new) calls.new.taken
         × IsPrinted result piece.now printed }
     ensures services { calls.new.services ≡ calls.old.services }
 

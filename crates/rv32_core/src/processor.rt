@@ -37,12 +37,12 @@ pub trait Processor: Drop {
         calls: &mut Calls,
         out: &mut S,
     ) -> Result<Step, StepStop>
-        // Where the memory can be relied on, it is the plain machine's instruction. What the sink took, the digest took too,
+        // Where the memory can be relied on, it is the plain machine's instruction. What the sink took is digested and counted,
         // also after a stop.
         ensures outcome { let before = state_of (core self.old) calls.old.services
             (M.contents ram.old) in
-            (printed : List ℕ) × Prints (S.state out.old) calls.old.digest printed (S.state out.new)
-            calls.new.digest
+            (printed : List ℕ) × Prints (S.state out.old) calls.old.taken printed (S.state out.new)
+            calls.new.taken
             × (IsReliable M.stopped M.sound ram.old ram.new → IsOutcome (next before) result before
             (state_of (core self.new) calls.new.services (M.contents ram.new)) printed) }
         ensures stays { OnErr result ((core self.new ≡ core self.old)

@@ -52,8 +52,8 @@ impl Core {
         out: &mut S,
     ) -> Result<Step, StepStop>
         ensures outcome { let before = state_of self.old calls.old.services (M.contents ram.old) in
-            (printed : List ℕ) × Prints (S.state out.old) calls.old.digest printed (S.state out.new)
-            calls.new.digest
+            (printed : List ℕ) × Prints (S.state out.old) calls.old.taken printed (S.state out.new)
+            calls.new.taken
             × (IsReliable M.stopped M.sound ram.old ram.new →
             IsOutcome (Ok (service before)) result before
             (state_of self.new calls.new.services (M.contents ram.new)) printed) }
@@ -92,7 +92,7 @@ impl Core {
             (state_of self.new calls.new.services (M.contents ram.new)) [] }
         ensures stays { OnErr result ((self.new ≡ self.old)
             × (calls.new.services ≡ calls.old.services)) }
-        ensures digest { calls.new.digest ≡ calls.old.digest }
+        ensures taken { calls.new.taken ≡ calls.old.taken }
 
         ensures mem { M.stopped ram.old ≡ None → CarriesStop (M.stopped ram.new) result }
         ensures only_traps { M.stopped ram.old ≡ None → M.stopped ram.new ≡ None →
@@ -127,8 +127,8 @@ impl Core {
         out: &mut S,
     ) -> Result<Step, StepStop>
         ensures outcome { let before = state_of self.old calls.old.services (M.contents ram.old) in
-            (printed : List ℕ) × Prints (S.state out.old) calls.old.digest printed (S.state out.new)
-            calls.new.digest
+            (printed : List ℕ) × Prints (S.state out.old) calls.old.taken printed (S.state out.new)
+            calls.new.taken
             × (IsReliable M.stopped M.sound ram.old ram.new →
             IsOutcome (Ok (write_service before)) result before
             (state_of self.new calls.new.services (M.contents ram.new)) printed) }
@@ -177,7 +177,7 @@ impl Core {
         ensures outcome { let before = state_of self.old calls.old.services (M.contents ram.now) in
             IsOutcome (Ok (brk_service before)) result before
             (state_of self.new calls.new.services (M.contents ram.now)) [] }
-        ensures digest { calls.new.digest ≡ calls.old.digest }
+        ensures taken { calls.new.taken ≡ calls.old.taken }
         ensures retired { result ≡ Ok Retired }
     {
         let brk = calls.move_break(self.reg(A0), ram.size());

@@ -10,7 +10,7 @@ pub loop-at-init : goal.loop-at-init
 loop-at-init g c =
     let none : c.args.from - c.args.from ≡ 0 = omega arith in
     record {
-      printed = ([], prints_nothing (g.S.Sink.state c.args.out.now) c.args.calls.now.digest, λ reliable. rw none refl);
+      printed = ([], prints_nothing (g.S.Sink.state c.args.out.now) c.args.calls.now.taken, λ reliable. rw none refl);
       contents = λ reliable. refl;
       services = refl;
       begun = omega arith;
@@ -32,7 +32,7 @@ loop-at-preserved g c =
     record {
       printed = (
         before.printed.0 ++ whole.0,
-        prints_both before.printed.0 whole.0 (g.S.Sink.state c.args.out.now) (g.S.Sink.state c.loop-at.out) (g.S.Sink.state c.print_piece.new.out) c.args.calls.now.digest c.loop-at.calls.digest c.print_piece.new.calls.digest before.printed.1 whole.1,
+        prints_both before.printed.0 whole.0 (g.S.Sink.state c.args.out.now) (g.S.Sink.state c.loop-at.out) (g.S.Sink.state c.print_piece.new.out) c.args.calls.now.taken c.loop-at.calls.taken c.print_piece.new.calls.taken before.printed.1 whole.1,
         λ reliable.
             ap (λ (x : List ℕ). x ++ whole.0) (before.printed.2 (reliable.0, more.lost reliable.1))
             ∙ ap (λ (x : List ℕ). memory_bytes (g.M.Ram.contents c.args.ram.now) c.args.from (c.loop-at.at - c.args.from) ++ x) (whole.2 (before.stopped reliable.0, reliable.1) ∙ ap (λ (x : List ℕ). memory_bytes x c.loop-at.at n) (before.contents (reliable.0, more.lost reliable.1)))
@@ -62,7 +62,7 @@ returns-in_err-print_piece-clause-printed g c =
     let p = err_from_is_err_and c.from_residual.result c.from_residual.ensures.1 in
     let lost = c.in_err-print_piece.ensures.moved.lost in (
       before.printed.0 ++ part.0,
-      prints_both before.printed.0 part.0 (g.S.Sink.state c.args.out.now) (g.S.Sink.state c.loop-at.out) (g.S.Sink.state c.print_piece.new.out) c.args.calls.now.digest c.loop-at.calls.digest c.print_piece.new.calls.digest before.printed.1 part.1,
+      prints_both before.printed.0 part.0 (g.S.Sink.state c.args.out.now) (g.S.Sink.state c.loop-at.out) (g.S.Sink.state c.print_piece.new.out) c.args.calls.now.taken c.loop-at.calls.taken c.print_piece.new.calls.taken before.printed.1 part.1,
       λ reliable.
           rw p.1 (cut_both (g.M.Ram.contents c.args.ram.now) before.printed.0 part.0 c.args.from c.loop-at.at c.piece_length-length.result c.args.count before.begun (omega arith)
           (before.printed.2 (reliable.0, lost reliable.1))

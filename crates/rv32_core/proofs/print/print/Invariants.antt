@@ -9,7 +9,7 @@ abbrev pub invariant-loop-at : goal.invariant-loop-at
 invariant-loop-at g l =
     let ram = g.M.Ram in
     record {
-      printed : (printed : List ℕ) × Prints (g.S.Sink.state l.initial.out) l.initial.calls.digest printed (g.S.Sink.state l.out) l.calls.digest
+      printed : (printed : List ℕ) × Prints (g.S.Sink.state l.initial.out) l.initial.calls.taken printed (g.S.Sink.state l.out) l.calls.taken
           × (IsReliable ram.stopped ram.sound l.initial.ram l.ram → printed ≡ memory_bytes (ram.contents l.initial.ram) l.from (l.at - l.from));
       contents : IsReliable ram.stopped ram.sound l.initial.ram l.ram → ram.contents l.ram ≡ ram.contents l.initial.ram;
       services : l.calls.services ≡ l.initial.calls.services;

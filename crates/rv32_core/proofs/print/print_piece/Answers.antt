@@ -11,6 +11,6 @@ returns-in_err-load_piece-clause-printed g c =
     let contents = g.M.Ram.contents c.args.ram.now in
     let count = bytes_length contents c.args.from c.args.count (omega (arith, sized)) in (
       [],
-      prints_nothing (g.S.Sink.state c.args.out.now) c.args.calls.now.digest,
+      prints_nothing (g.S.Sink.state c.args.out.now) c.args.calls.now.taken,
       λ reliable. rw p.1 ((memory_bytes contents c.args.from c.args.count, refl), omega (arith, count, c.requires.some)),
     )

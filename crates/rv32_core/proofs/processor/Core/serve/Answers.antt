@@ -18,7 +18,7 @@ returns-in-64-clause-moved g c =
 pub returns-in_default-clause-outcome : goal.returns-in_default-clause-outcome
 returns-in_default-clause-outcome g c = (
   [],
-  prints_nothing (g.S.Sink.state c.args.out.now) c.args.calls.now.digest,
+  prints_nothing (g.S.Sink.state c.args.out.now) c.args.calls.now.taken,
   λ reliable.
       let before : State = state_of c.args.self.now c.args.calls.now.services (g.M.Ram.contents c.args.ram.now) in
       let read : a7 before ≢ 63 = omega arith in
@@ -33,7 +33,7 @@ returns-in-63-clause-outcome g c =
     let before : State = state_of c.args.self.now c.args.calls.now.services (g.M.Ram.contents c.args.ram.now) in
     let number : a7 before ≡ 63 = sym c.reg.ensures ∙ c.in-63.is in (
       [],
-      prints_nothing_as (g.S.Sink.state c.args.out.now) c.args.calls.now.digest c.read_input.new.calls.digest c.read_input.ensures.digest,
+      prints_nothing_as (g.S.Sink.state c.args.out.now) c.args.calls.now.taken c.read_input.new.calls.taken c.read_input.ensures.taken,
       λ reliable. read_outcome c.read_input.result before _ number (c.read_input.ensures.outcome reliable),
     )
 
@@ -42,7 +42,7 @@ returns-in-93-clause-outcome g c =
     let before : State = state_of c.args.self.now c.args.calls.now.services (g.M.Ram.contents c.args.ram.now) in
     let number : a7 before ≡ 93 = sym c.reg.ensures ∙ c.in-93.is in (
       [],
-      prints_nothing (g.S.Sink.state c.args.out.now) c.args.calls.now.digest,
+      prints_nothing (g.S.Sink.state c.args.out.now) c.args.calls.now.taken,
       λ reliable. exit_outcome c.exit.result before c.exit.new.self number c.exit.ensures.halted c.exit.ensures.core,
     )
 
@@ -51,6 +51,6 @@ returns-in-214-clause-outcome g c =
     let before : State = state_of c.args.self.now c.args.calls.now.services (g.M.Ram.contents c.args.ram.now) in
     let number : a7 before ≡ 214 = sym c.reg.ensures ∙ c.in-214.is in (
       [],
-      prints_nothing_as (g.S.Sink.state c.args.out.now) c.args.calls.now.digest c.move_break.new.calls.digest c.move_break.ensures.digest,
+      prints_nothing_as (g.S.Sink.state c.args.out.now) c.args.calls.now.taken c.move_break.new.calls.taken c.move_break.ensures.taken,
       λ reliable. brk_outcome c.move_break.result before _ number c.move_break.ensures.outcome,
     )

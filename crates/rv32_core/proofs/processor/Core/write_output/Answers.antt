@@ -8,7 +8,7 @@ use Rattle.rv32_core.proofs.processor.Core.write_output.Goals as goal
 pub returns-then-not-names_output-clause-outcome : goal.returns-then-not-names_output-clause-outcome
 returns-then-not-names_output-clause-outcome g c = (
   [],
-  prints_nothing (g.S.Sink.state c.args.out.now) c.args.calls.now.digest,
+  prints_nothing (g.S.Sink.state c.args.out.now) c.args.calls.now.taken,
   λ reliable.
       let before : State = state_of c.args.self.now c.args.calls.now.services (g.M.Ram.contents c.args.ram.now) in
       let elsewhere : is_output (a0 before) ≡ false = ap is_output (sym c.reg.ensures) ∙ sym c.names_output.ensures ∙ c.if-not-names_output.true in
@@ -18,7 +18,7 @@ returns-then-not-names_output-clause-outcome g c = (
 pub returns-then-not-reaches_inside-clause-outcome : goal.returns-then-not-reaches_inside-clause-outcome
 returns-then-not-reaches_inside-clause-outcome g c = (
   [],
-  prints_nothing (g.S.Sink.state c.args.out.now) c.args.calls.now.digest,
+  prints_nothing (g.S.Sink.state c.args.out.now) c.args.calls.now.taken,
   λ reliable.
       let before : State = state_of c.args.self.now c.args.calls.now.services (g.M.Ram.contents c.args.ram.now) in
       let output : is_output (a0 before) ≡ true = ap is_output (sym c.reg.ensures) ∙ sym c.names_output.ensures ∙ c.if-not-names_output.false in

@@ -23,7 +23,7 @@ returns-in_err-word-clause-outcome g c =
     let p = err_from_is_err_and c.from_residual.result c.from_residual.ensures.1 in
     let stop = c.in_err-word.field-0.0 in (
       [],
-      prints_nothing (g.S.Sink.state c.args.out.now) c.args.calls.now.digest,
+      prints_nothing (g.S.Sink.state c.args.out.now) c.args.calls.now.taken,
       λ reliable.
           rw (p.1, p.2) (fetch_stopped stop c.args.self.now c.args.calls.now.services _ _
           (subst (λ (h : CoreView). IsFetched (g.M.Ram.contents c.args.ram.now) h.pc (Err stop)) c.self.view_is (c.in_err-word.ensures.fetched reliable))
@@ -57,7 +57,7 @@ returns-in-Some-clause-moved g c =
 pub returns-in-None-clause-outcome : goal.returns-in-None-clause-outcome
 returns-in-None-clause-outcome g c = (
   [],
-  prints_nothing (g.S.Sink.state c.args.out.now) c.args.calls.now.digest,
+  prints_nothing (g.S.Sink.state c.args.out.now) c.args.calls.now.taken,
   λ reliable. (
     illegal (state_of c.args.self.now c.args.calls.now.services (g.M.Ram.contents c.args.ram.now)) c.in_ok-word.word
         (subst (λ (h : CoreView). h.pc + 4 ≤ length (g.M.Ram.contents c.args.ram.now)) c.self.view_is (c.in_ok-word.ensures.fetched reliable).0)
