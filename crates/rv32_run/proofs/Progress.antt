@@ -184,7 +184,7 @@ module _ {P M : Type 0} (means : Semantics P M) (still : (m : M) → means.moved
       PrintsAndGoes means out out from to
   prints_not out from to same within going = subst (λ (now : ExecutionView P M). PrintsAndGoes means out out from now) (sym same) (record {
     printed = [];
-    digest = digests_nothing from.calls.digest;
+    digest = digests_nothing from.calls.taken;
     sink = sink_goes_not out;
     goes = goes_not from within going;
   })
@@ -192,7 +192,7 @@ module _ {P M : Type 0} (means : Semantics P M) (still : (m : M) → means.moved
   pub prints_on : (out mid out' : SinkState) (a b c : ExecutionView P M) → PrintsAndGoes means out mid a b → PrintsAndGoes means mid out' b c → PrintsAndGoes means out out' a c
   prints_on out mid out' a b c so_far more = record {
     printed = so_far.printed ++ more.printed;
-    digest = digests_both so_far.printed more.printed a.calls.digest b.calls.digest c.calls.digest so_far.digest more.digest;
+    digest = digests_both so_far.printed more.printed a.calls.taken b.calls.taken c.calls.taken so_far.digest more.digest;
     sink = sink_goes_on out mid out' so_far.printed more.printed so_far.sink more.sink;
     goes = goes_on a b c so_far.printed more.printed so_far.goes more.goes;
   }
@@ -200,7 +200,7 @@ module _ {P M : Type 0} (means : Semantics P M) (still : (m : M) → means.moved
   pub prints_to_end : (ending : Ending) (out mid out' : SinkState) (a b c : ExecutionView P M) → PrintsAndGoes means out mid a b → PrintsAndEnds means ending mid out' b c → PrintsAndEnds means ending out out' a c
   prints_to_end ending out mid out' a b c so_far more = record {
     printed = so_far.printed ++ more.printed;
-    digest = digests_both so_far.printed more.printed a.calls.digest b.calls.digest c.calls.digest so_far.digest more.digest;
+    digest = digests_both so_far.printed more.printed a.calls.taken b.calls.taken c.calls.taken so_far.digest more.digest;
     sink = sink_to_end out mid out' so_far.printed more.printed ending so_far.sink more.sink;
     ended = goes_to_end a b c so_far.printed more.printed ending so_far.goes more.ended;
   }

@@ -97,16 +97,16 @@ module _ {P M : Type 0} (means : Semantics P M) where
     pub core : means.sound to.memory → means.core to.processor ≡ means.core from.processor
     pub services : means.sound to.memory → to.calls.services ≡ from.calls.services
 
-  -- Bytes were printed to the sink and the digest, and the execution goes along.
+  -- Bytes were printed, digested and counted, and the execution goes along.
   pub record PrintsAndGoes (out out' : SinkState) (from to : ExecutionView P M) : Type 0 where
     pub printed : List ℕ
-    pub digest : Digests from.calls.digest printed to.calls.digest
+    pub digest : Digests from.calls.taken printed to.calls.taken
     pub sink : SinkGoes out printed out'
     pub goes : GoesAlong from printed to
 
-  -- Bytes were printed to the sink and the digest, and the execution has ended so.
+  -- Bytes were printed, digested and counted, and the execution has ended so.
   pub record PrintsAndEnds (ending : Ending) (out out' : SinkState) (from to : ExecutionView P M) : Type 0 where
     pub printed : List ℕ
-    pub digest : Digests from.calls.digest printed to.calls.digest
+    pub digest : Digests from.calls.taken printed to.calls.taken
     pub sink : SinkEnds out printed ending out'
     pub ended : HasEnded from printed ending to

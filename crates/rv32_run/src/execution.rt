@@ -4,12 +4,11 @@ ghost use Rattle.sec_base.specs.declared.ending.Ending.TheVariants.{OutOfSteps, 
 ghost use Rattle.sec_base.specs.Count.{Rose};
 ghost use Rattle.sec_base.specs.Prefix.{IsPrefix};
 ghost use Rattle.sec_base.specs.Ram.{GoesOn};
-ghost use Rattle.sha2.specs.Hashers.{Holds256};
 ghost use Rattle.rv32_core.specs.State.{opening_core, state_of};
 ghost use Rattle.rv32_core.specs.Effect.{next};
 ghost use Rattle.rv32_core.specs.Outcome.{prints_of};
 ghost use Rattle.rv32_core.specs.Machine.{Machine, plain, opening_calls};
-ghost use Rattle.rv32_core.specs.Printing.{Prints};
+ghost use Rattle.rv32_core.specs.Printing.{HoldsTaken, Prints};
 ghost use Rattle.rv32_core.specs.TouchedLines.{touched_lines};
 ghost use Rattle.rv32_run.specs.Trail.{IsInstruction};
 ghost use Rattle.rv32_run.specs.Execution.{Reaches, StandsAt, Turns, retired_after, stop_ending, CarriesEnding};
@@ -48,7 +47,7 @@ impl<'a, M: Ram> Execution<'a, Core, M> {
     pub fn new(image: &Image, input: &'a [u8], memory: M, budget: u64) -> Execution<'a, Core, M>
         ensures core { result.processor ≡ opening_core image.now.entry image.now.size }
         ensures services { result.calls.services ≡ opening_calls image.now.segments input.now }
-        ensures nothing_taken { Holds256 result.calls.digest [] }
+        ensures nothing_taken { HoldsTaken result.calls.taken [] }
         ensures memory { result.memory ≡ memory }
         ensures retired { result.retired ≡ 0 }
         ensures budget { result.budget ≡ budget }
@@ -71,7 +70,7 @@ impl<'a, P: Processor, M: Ram> Execution<'a, P, M> {
         self.retired
     }
 
-    /// The memory as it is, and the services, which have the digest of what the sink took.
+    /// The memory as it is, and the services, which have what the sink took.
     pub fn into_parts(self) -> (M, Calls<'a>)
         ensures memory { result.0 ≡ self.entry.memory }
         ensures calls { result.1 ≡ self.entry.calls }
@@ -180,7 +179,7 @@ fn turn<P: Processor, M: Ram, S: Sink>(
 
     // Where the memory can be relied on, it goes on as the plain machine does.
     ensures turns { (printed : List ℕ)
-        × Prints (S.state out.old) calls.old.digest printed (S.state out.new) calls.new.digest
+        × Prints (S.state out.old) calls.old.taken printed (S.state out.new) calls.new.taken
         × (M.sound memory.new → (start : Machine) (before : List ℕ) →
         Reaches start retired.old (P.core processor.old) calls.old.services (M.contents memory.old)
         before →
