@@ -392,3 +392,34 @@ fn the_digest_goes_on_after_a_stop(rt: HostRuntime) -> Result<(), Fail> {
     assert_eq!(rt; calls.finish(), OF_BOTH);
     Ok(())
 }
+
+// Also where they come in pieces, and where the sink fails after a front part.
+#[test]
+fn the_bytes_that_the_sink_took_are_counted(rt: HostRuntime) -> Result<(), Fail> {
+    let mut ram = with_letters();
+    let mut calls = Calls::new(b"", &image(rt.alloc())?);
+    assert_eq!(rt; calls.printed(), 0);
+    let rows = [
+        (9, 0, 0),
+        (9, 1, 1),
+        (0, 8, 1), // it fails at once
+        (1, 8, 2),
+        (5, 8, 7),
+        (8, 8, 15),
+    ];
+    for (left, count, all) in rows {
+        let mut out = Narrow { left, faults: 0 };
+        let _ = asking(&mut calls, 64, 1, 60, count).step(&mut ram, &mut calls, &mut out);
+        assert_eq!(rt; calls.printed(), all, "{count} bytes to a sink of {left}");
+    }
+    let mut out = MemorySink::new(rt.alloc(), &[3])?;
+    let _ = asking(&mut calls, 64, 3, 60, 8).step(&mut ram, &mut calls, &mut out);
+    assert_eq!(rt; calls.printed(), 15, "no output");
+    let _ = asking(&mut calls, 64, 1, 60, 140).step(&mut ram, &mut calls, &mut out);
+    assert_eq!(rt;
+        calls.printed(),
+        83,
+        "pieces of 4 and 64 bytes, and then a fault"
+    );
+    Ok(())
+}
