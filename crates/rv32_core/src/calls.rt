@@ -76,8 +76,7 @@ impl<'a> Calls<'a> {
 
     /// How many bytes the sink took. The count stands still at 2^64 - 1.
     pub fn printed(&self) -> u64
-        ensures count { result ≡ self.now.taken.count }
-        ensures bytes { (bytes : List ℕ) → HoldsTaken self.now.taken bytes →
+        ensures { (bytes : List ℕ) → HoldsTaken self.now.taken bytes →
             result ≡ more_by (length bytes) 0 }
     {
         self.taken.count()

@@ -1,7 +1,7 @@
 // A run that is under way.
 ghost use Rattle.std.specs.Prelude.{◌≡◌, ◌≢◌, ◌↔◌, ◌<◌, ◌≤◌, ◌++◌, ℕ, List, [], None, Some, IfSome, length};
 ghost use Rattle.sec_base.specs.declared.ending.Ending.TheVariants.{OutOfSteps, WriteFault, NoMemory};
-ghost use Rattle.sec_base.specs.Count.{Rose};
+ghost use Rattle.sec_base.specs.Count.{Rose, more_by};
 ghost use Rattle.sec_base.specs.Prefix.{IsPrefix};
 ghost use Rattle.sec_base.specs.Ram.{GoesOn};
 ghost use Rattle.rv32_core.specs.State.{opening_core, state_of};
@@ -68,6 +68,14 @@ impl<'a, P: Processor, M: Ram> Execution<'a, P, M> {
         ensures { result ≡ self.now.retired }
     {
         self.retired
+    }
+
+    /// How many bytes the sink took. It stands still at 2^64 - 1.
+    pub fn printed(&self) -> u64
+        ensures { (bytes : List ℕ) → HoldsTaken self.now.calls.taken bytes →
+            result ≡ more_by (length bytes) 0 }
+    {
+        self.calls.printed()
     }
 
     /// The memory as it is, and the services, which have what the sink took.
