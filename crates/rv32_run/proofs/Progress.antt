@@ -1,5 +1,5 @@
 -- Turns of an execution, one after another.
-use Rattle.std.proofs.Common.{◌≡◌, ◌≢◌, ◌<◌, ◌≤◌, ℕ, zero, suc, ◌+◌, List, [], ◌++◌, length, Option, Some, None, IfSome, refl, sym, ◌∙◌, subst, arith, add-zero, append_assoc, append-nil, inl, inr}
+use Rattle.std.proofs.Common.{◌≡◌, ◌≢◌, ◌<◌, ◌≤◌, ℕ, zero, suc, ◌+◌, List, [], ◌++◌, length, Option, Some, None, IfSome, refl, sym, ap, ◌∙◌, subst, arith, add-zero, append_assoc, append-nil, inl, inr}
 use Rattle.sec_base.specs.declared.ending.Ending.{Ending}
 use Rattle.sec_base.specs.declared.stop.MemStop.{MemStop}
 use Rattle.sec_base.specs.Count.{Rose}
@@ -17,12 +17,23 @@ use Rattle.rv32_core.specs.TouchedLines.{touched_lines}
 use Rattle.rv32_run.specs.Progress.{Semantics, GoesAlong, HasEnded, IsPause, PrintsAndEnds, PrintsAndGoes, SinkEnds, SinkGoes, StandsWith}
 use Rattle.rv32_run.specs.Execution.{CarriesEnding, FollowsWith, IsStop, StandsAt, retired_after}
 use Rattle.rv32_run.specs.ExecutionView.{ExecutionView}
-use Rattle.rv32_run.specs.Trail.{HasTrail, IsInstruction, IsTrail, IsWalked}
+use Rattle.rv32_run.specs.Trail.{HasTrail, IsIdle, IsInstruction, IsTrail, IsWalked}
 use Rattle.rv32_run.proofs.Turns.{carries_on, follows_used, out_of_steps_alone, stands_here, stop_prints, stop_retires}
 use Rattle.rv32_run.proofs.Trails.{retired_or_not, walk_ends}
 
 module _ {M : Type 0} (stopped : M → Option MemStop) (contents : M → List ℕ) (moved : M → List ℕ → M → Type 0)
-    (still : (m : M) → moved m [] m) (moved_on : (a b c : M) (xs ys : List ℕ) → moved a xs b → moved b ys c → moved a (xs ++ ys) c) (start : Machine) where
+    (still : (m : M) → moved m [] m) (moved_on : (a b c : M) (xs ys : List ℕ) → moved a xs b → moved b ys c → moved a (xs ++ ys) c) (pauses : Type 0) (start : Machine) where
+  -- nothing and pauses touch no line
+  idle_touches_none : (old new : M) → IsIdle moved pauses old new → moved old [] new
+  idle_touches_none old new (inl same) = subst (λ (m : M). moved old [] m) same (still old)
+  idle_touches_none old new (inr paused) = paused.1
+
+  -- one after another
+  idle_on : (a b c : M) → IsIdle moved pauses a b → IsIdle moved pauses b c → IsIdle moved pauses a c
+  idle_on a b c (inl first) second = subst (λ (m : M). IsIdle moved pauses m c) (sym first) second
+  idle_on a b c (inr first) (inl second) = inr (first.0, subst (λ (m : M). moved a [] m) second first.1)
+  idle_on a b c (inr first) (inr second) = inr (first.0, moved_on a b c [] [] first.1 second.1)
+
   -- calls that touched no line go before an instruction's own
   later_instruction : (n : ℕ) (last now new : M) → moved last [] now → IsInstruction stopped contents moved start n now new → IsInstruction stopped contents moved start n last new
   later_instruction n last now new idle step = record {
@@ -34,14 +45,14 @@ module _ {M : Type 0} (stopped : M → Option MemStop) (contents : M → List �
   }
 
   -- some instructions more
-  walked_by : (from to k : ℕ) (first now new : M) → IsWalked stopped contents moved start from to first now → IsTrail stopped contents moved start to k now new →
-      IsWalked stopped contents moved start from (to + k) first new
+  walked_by : (from to k : ℕ) (first now new : M) → IsWalked stopped contents moved pauses start from to first now → IsTrail stopped contents moved start to k now new →
+      IsWalked stopped contents moved pauses start from (to + k) first new
   walked_by from to zero first now new walked trail = record {
     count = walked.count;
     counted = omega (arith, walked.counted);
     last = walked.last;
     trail = walked.trail;
-    rest = subst (λ (m : M). moved walked.last [] m) trail walked.rest;
+    rest = subst (λ (m : M). IsIdle moved pauses walked.last m) trail walked.rest;
   }
   walked_by from to (suc k) first now new walked trail =
       let before = walked_by from to k first now trail.0 walked trail.1 in
@@ -53,14 +64,14 @@ module _ {M : Type 0} (stopped : M → Option MemStop) (contents : M → List �
         trail = (
           before.last,
           before.trail,
-          later_instruction (from + before.count) before.last trail.0 new before.rest
+          later_instruction (from + before.count) before.last trail.0 new (idle_touches_none before.last trail.0 before.rest)
               (subst (λ (n : ℕ). IsInstruction stopped contents moved start n trail.0 new) (sym at) trail.2),
         );
-        rest = still new;
+        rest = inl refl;
       }
 
-  pub walked_both : (from mid to : ℕ) (first now new : M) → IsWalked stopped contents moved start from mid first now → IsWalked stopped contents moved start mid to now new →
-      IsWalked stopped contents moved start from to first new
+  pub walked_both : (from mid to : ℕ) (first now new : M) → IsWalked stopped contents moved pauses start from mid first now → IsWalked stopped contents moved pauses start mid to now new →
+      IsWalked stopped contents moved pauses start from to first new
   walked_both from mid to first now new walked more =
       let on = walked_by from mid more.count first now more.last walked more.trail in
       record {
@@ -68,10 +79,10 @@ module _ {M : Type 0} (stopped : M → Option MemStop) (contents : M → List �
         counted = omega (arith, on.counted, more.counted);
         last = on.last;
         trail = on.trail;
-        rest = moved_on on.last more.last new [] [] on.rest more.rest;
+        rest = idle_on on.last more.last new on.rest more.rest;
       }
 
-  pub walked_to_end : (from mid to : ℕ) (first now end : M) → IsWalked stopped contents moved start from mid first now → HasTrail stopped contents moved start mid to now end →
+  pub walked_to_end : (from mid to : ℕ) (first now end : M) → IsWalked stopped contents moved pauses start from mid first now → HasTrail stopped contents moved start mid to now end →
       HasTrail stopped contents moved start from to first end
   walked_to_end from mid to first now end walked more =
       let on = walked_by from mid more.count first now more.last walked more.trail in
@@ -81,7 +92,7 @@ module _ {M : Type 0} (stopped : M → Option MemStop) (contents : M → List �
         last = on.last;
         trail = on.trail;
         lines = more.lines;
-        rest = moved_on on.last more.last end [] more.lines on.rest more.rest;
+        rest = moved_on on.last more.last end [] more.lines (idle_touches_none on.last more.last on.rest) more.rest;
         unretired = more.unretired;
       }
 
@@ -135,7 +146,7 @@ module _ {P M : Type 0} (means : Semantics P M) (still : (m : M) → means.moved
     going = going;
     moved = record { extent = refl; lost = λ sound. sound; lines = []; moved = still execution.memory; touched = tt };
     reaches = λ sound start before here. subst (λ (printed : List ℕ). StandsWith means start execution printed) (sym (append-nil before)) here;
-    walked = λ sound start before here. record { count = 0; counted = omega arith; last = execution.memory; trail = refl; rest = still execution.memory };
+    walked = λ sound start before here. record { count = 0; counted = omega arith; last = execution.memory; trail = refl; rest = inl refl };
   }
 
   -- turns and further ones
@@ -149,7 +160,7 @@ module _ {P M : Type 0} (means : Semantics P M) (still : (m : M) → means.moved
         subst (λ (printed : List ℕ). StandsWith means start c printed) (append_assoc before first second)
         (more.reaches sound start (before ++ first) (so_far.reaches (more.moved.lost sound) start before here));
     walked = λ sound start before here.
-        walked_both means.stopped means.contents means.moved still moved_on start a.retired b.retired c.retired a.memory b.memory c.memory
+        walked_both means.stopped means.contents means.moved still moved_on means.pauses start a.retired b.retired c.retired a.memory b.memory c.memory
         (so_far.walked (more.moved.lost sound) start before here)
         (more.walked sound start (before ++ first) (so_far.reaches (more.moved.lost sound) start before here));
   }
@@ -172,9 +183,13 @@ module _ {P M : Type 0} (means : Semantics P M) (still : (m : M) → means.moved
     sink_stop = λ going sound start before here.
         more.sink_stop going sound start (before ++ first) (so_far.reaches (more.moved.lost sound) start before here);
     trail = λ sound start before here.
-        walked_to_end means.stopped means.contents means.moved still moved_on start a.retired b.retired c.retired a.memory b.memory c.memory
+        walked_to_end means.stopped means.contents means.moved still moved_on means.pauses start a.retired b.retired c.retired a.memory b.memory c.memory
         (so_far.walked (more.moved.lost sound) start before here)
         (more.trail sound start (before ++ first) (so_far.reaches (more.moved.lost sound) start before here));
+    none_left = λ between sound start before here.
+        walked_both means.stopped means.contents means.moved still moved_on means.pauses start a.retired b.retired c.retired a.memory b.memory c.memory
+        (so_far.walked (more.moved.lost sound) start before here)
+        (more.none_left between sound start (before ++ first) (so_far.reaches (more.moved.lost sound) start before here));
   }
 
   -- with what was printed
@@ -217,13 +232,13 @@ module _ {P M : Type 0} (means : Semantics P M) (still : (m : M) → means.moved
         (rw (pause.contents sound, pause.retired sound, pause.core sound, pause.services sound) here);
     walked = λ sound start before here.
         let same = pause.retired sound in
-        record { count = 0; counted = omega (arith, same); last = from.memory; trail = refl; rest = pause.idle };
+        record { count = 0; counted = omega (arith, same); last = from.memory; trail = refl; rest = inr (pause.allowed, pause.idle) };
   }
 
--- What calls make of a memory may be said more widely.
+-- What calls make of a memory may be said more widely, with pauses.
 
 module _ {M : Type 0} (stopped : M → Option MemStop) (contents : M → List ℕ) (moved wide : M → List ℕ → M → Type 0)
-    (widen : (old new : M) (lines : List ℕ) → moved old lines new → wide old lines new) (start : Machine) where
+    (widen : (old new : M) (lines : List ℕ) → moved old lines new → wide old lines new) (pauses : Type 0) (start : Machine) where
   instruction_wider : (n : ℕ) (old new : M) → IsInstruction stopped contents moved start n old new → IsInstruction stopped contents wide start n old new
   instruction_wider n old new step = record {
     lines = step.lines;
@@ -238,13 +253,17 @@ module _ {M : Type 0} (stopped : M → Option MemStop) (contents : M → List �
   trail_wider from (suc n) first last trail =
       (trail.0, trail_wider from n first trail.0 trail.1, instruction_wider (from + n) trail.0 last trail.2)
 
-  walked_wider : (from to : ℕ) (first now : M) → IsWalked stopped contents moved start from to first now → IsWalked stopped contents wide start from to first now
+  idle_wider : (last now : M) → IsIdle moved pauses last now → IsIdle wide (Unit {0}) last now
+  idle_wider last now (inl same) = inl same
+  idle_wider last now (inr paused) = inr (tt, widen last now [] paused.1)
+
+  walked_wider : (from to : ℕ) (first now : M) → IsWalked stopped contents moved pauses start from to first now → IsWalked stopped contents wide (Unit {0}) start from to first now
   walked_wider from to first now walked = record {
     count = walked.count;
     counted = walked.counted;
     last = walked.last;
     trail = trail_wider from walked.count first walked.last walked.trail;
-    rest = widen walked.last now [] walked.rest;
+    rest = idle_wider walked.last now walked.rest;
   }
 
   ended_wider : (from to : ℕ) (first end : M) → HasTrail stopped contents moved start from to first end → HasTrail stopped contents wide start from to first end
@@ -259,7 +278,7 @@ module _ {M : Type 0} (stopped : M → Option MemStop) (contents : M → List �
   }
 
 abbrev pub wider : {P M : Type 0} → Semantics P M → (M → List ℕ → M → Type 0) → Semantics P M
-wider means wide = record means { moved = wide }
+wider means wide = record means { moved = wide; pauses = Unit {0} }
 
 module _ {P M : Type 0} (means : Semantics P M) (wide : M → List ℕ → M → Type 0)
     (widen : (old new : M) (lines : List ℕ) → means.moved old lines new → wide old lines new) (from to : ExecutionView P M) (printed : List ℕ) where
@@ -271,7 +290,7 @@ module _ {P M : Type 0} (means : Semantics P M) (wide : M → List ℕ → M →
     moved = record { extent = goes.moved.extent; lost = goes.moved.lost; lines = goes.moved.lines; moved = widen from.memory to.memory goes.moved.lines goes.moved.moved; touched = tt };
     reaches = goes.reaches;
     walked = λ sound start before here.
-        walked_wider means.stopped means.contents means.moved wide widen start from.retired to.retired from.memory to.memory (goes.walked sound start before here);
+        walked_wider means.stopped means.contents means.moved wide widen means.pauses start from.retired to.retired from.memory to.memory (goes.walked sound start before here);
   }
 
   pub ends_wider : (ending : Ending) → HasEnded means from printed ending to → HasEnded (wider means wide) from printed ending to
@@ -286,7 +305,9 @@ module _ {P M : Type 0} (means : Semantics P M) (wide : M → List ℕ → M →
     stands = ended.stands;
     sink_stop = ended.sink_stop;
     trail = λ sound start before here.
-        ended_wider means.stopped means.contents means.moved wide widen start from.retired to.retired from.memory to.memory (ended.trail sound start before here);
+        ended_wider means.stopped means.contents means.moved wide widen means.pauses start from.retired to.retired from.memory to.memory (ended.trail sound start before here);
+    none_left = λ between sound start before here.
+        walked_wider means.stopped means.contents means.moved wide widen means.pauses start from.retired to.retired from.memory to.memory (ended.none_left between sound start before here);
   }
 
 -- One turn
@@ -309,6 +330,17 @@ module _ {P M : Type 0} (means : Semantics P M) (old new : ExecutionView P M) (b
   idle_moved : GoesOn means.extent means.sound means.moved (λ lines. Unit {0}) old.memory new.memory
   idle_moved = record { extent = moved.extent; lost = moved.lost; lines = moved.lines; moved = moved.moved; touched = tt }
 
+  -- an instruction was retired
+  walked_once : new.retired ≡ old.retired + 1 → means.sound new.memory → (start : Machine) (before : List ℕ) → StandsWith means start old before →
+      IsWalked means.stopped means.contents means.moved means.pauses start old.retired new.retired old.memory new.memory
+  walked_once more sound start before here = record {
+    count = 1;
+    counted = omega (arith, more);
+    last = new.memory;
+    trail = (old.memory, refl, subst (λ (n : ℕ). IsInstruction means.stopped means.contents means.moved start n old.memory new.memory) (sym (add-zero old.retired)) (instruction (omega (arith, more)) sound start before here));
+    rest = inl refl;
+  }
+
   pub turn_goes : (turns : means.sound new.memory → (start : Machine) (before : List ℕ) → StandsWith means start old before → StandsWith means start new (before ++ printed)) →
       CarriesEnding (means.stopped new.memory) None → new.retired ≡ old.retired + 1 → GoesAlong means old printed new
   turn_goes turns mem more = record {
@@ -317,13 +349,7 @@ module _ {P M : Type 0} (means : Semantics P M) (old new : ExecutionView P M) (b
     going = carries_on _ mem;
     moved = idle_moved;
     reaches = turns;
-    walked = λ sound start before here. record {
-      count = 1;
-      counted = omega (arith, more);
-      last = new.memory;
-      trail = (old.memory, refl, subst (λ (n : ℕ). IsInstruction means.stopped means.contents means.moved start n old.memory new.memory) (sym (add-zero old.retired)) (instruction (omega (arith, more)) sound start before here));
-      rest = still new.memory;
-    };
+    walked = λ sound start before here. walked_once more sound start before here;
   }
 
   pub turn_ends : (ending : Ending) → (turns : means.sound new.memory → (start : Machine) (before : List ℕ) → StandsWith means start old before →
@@ -351,6 +377,10 @@ module _ {P M : Type 0} (means : Semantics P M) (old new : ExecutionView P M) (b
             (still new.memory) count moved.moved
             (subst (λ (machine : Machine). IsPrefix moved.lines (touched_lines machine.state)) (sym here) (moved.touched sound))
             (λ more. instruction more sound start before here) refl refl;
+        none_left = λ between sound start before here. elim between [
+          | inl is ↦ absurd (steps is)
+          | inr (code, is) ↦ walked_once (count ∙ ap (λ (e : Ending). retired_after (Some e) old.retired) is) sound start before here
+        ];
       }
 
 -- The budget was used up
@@ -359,7 +389,12 @@ uses_up : (stopped : Option MemStop) → stopped ≡ None → CarriesEnding stop
 uses_up None going = out_of_steps_alone
 uses_up (Some stop) going = cc
 
-module _ {P M : Type 0} (means : Semantics P M) (from to : ExecutionView P M) where
+module _ {P M : Type 0} (means : Semantics P M) (still : (m : M) → means.moved m [] m) (from to : ExecutionView P M) where
+  -- nothing and pauses touch no line
+  untouched : (last : M) → IsIdle means.moved means.pauses last to.memory → means.moved last [] to.memory
+  untouched last (inl same) = subst (λ (m : M). means.moved last [] m) same (still last)
+  untouched last (inr paused) = paused.1
+
   pub goes_to_budget : (printed : List ℕ) → GoesAlong means from printed to → to.retired ≡ to.budget → HasEnded means from printed OutOfSteps to
   goes_to_budget printed so_far used = record {
     budget = so_far.budget;
@@ -383,9 +418,10 @@ module _ {P M : Type 0} (means : Semantics P M) (from to : ExecutionView P M) wh
           last = walked.last;
           trail = walked.trail;
           lines = [];
-          rest = walked.rest;
+          rest = untouched walked.last walked.rest;
           unretired = (touched_lines (plain start to.retired).state, refl);
         };
+    none_left = λ between sound start before here. so_far.walked sound start before here;
   }
 
   pub prints_used_up : (out out' : SinkState) → PrintsAndGoes means out out' from to → to.retired ≡ to.budget → PrintsAndEnds means OutOfSteps out out' from to

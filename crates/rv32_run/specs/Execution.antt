@@ -1,8 +1,8 @@
 -- What an execution's turns are, seen from the plain machine.
-use Rattle.std.specs.Prelude.{◌≡◌, ◌<◌, ℕ, ◌+◌, List, length, Option, Some, None}
+use Rattle.std.specs.Prelude.{◌≡◌, ◌⊎◌, ◌<◌, ℕ, ◌+◌, List, length, Option, Some, None}
 use Rattle.sec_base.specs.Ending.{EndingClass, ByProgram, ByProtection, BySink, ByEmulator, ending_class}
 use Rattle.sec_base.specs.declared.ending.Ending.{Ending}
-use Rattle.sec_base.specs.declared.ending.Ending.TheVariants.{Halted, Tampered, Spent, WriteFault, NoMemory}
+use Rattle.sec_base.specs.declared.ending.Ending.TheVariants.{Halted, OutOfSteps, Tampered, Spent, WriteFault, NoMemory}
 use Rattle.sec_base.specs.declared.stop.MemStop.{MemStop}
 use Rattle.sec_base.specs.declared.stop.MemStop.TheVariants.{Tampered as tampered, Spent as spent, NoMemory as no_memory}
 use Rattle.rv32_core.specs.State.{CoreView, ServicesView}
@@ -62,6 +62,10 @@ IsStopClass ByEmulator = Unit {0}
 -- the memory or the sink ended it
 abbrev pub IsStop : Ending → Type 0
 IsStop ending = IsStopClass (ending_class ending)
+
+-- it ended between two instructions: the budget was used up, or the program halted
+abbrev pub EndsBetween : Ending → Type 0
+EndsBetween ending = (ending ≡ OutOfSteps) ⊎ ((code : ℕ) × (ending ≡ Halted code))
 
 -- how a run ends that the memory stops
 abbrev pub stop_ending : MemStop → Ending

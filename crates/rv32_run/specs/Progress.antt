@@ -11,11 +11,11 @@ use Rattle.rv32_core.specs.Effect.{next}
 use Rattle.rv32_core.specs.Outcome.{prints_of}
 use Rattle.rv32_core.specs.Machine.{Machine, plain}
 use Rattle.rv32_core.specs.Printing.{Digests}
-use Rattle.rv32_run.specs.Execution.{CarriesEnding, FollowsWith, IsStop, Reaches, StandsAt}
+use Rattle.rv32_run.specs.Execution.{CarriesEnding, EndsBetween, FollowsWith, IsStop, Reaches, StandsAt}
 use Rattle.rv32_run.specs.ExecutionView.{ExecutionView}
 use Rattle.rv32_run.specs.Trail.{HasTrail, IsWalked}
 
--- how a processor and a memory are seen
+-- how a processor and a memory are seen, and whether there may be pauses between turns
 pub record Semantics (P M : Type 0) : Type 1 where
   pub core : P → CoreView
   pub contents : M → List ℕ
@@ -23,12 +23,13 @@ pub record Semantics (P M : Type 0) : Type 1 where
   pub sound : M → Type 0
   pub stopped : M → Option MemStop
   pub moved : M → List ℕ → M → Type 0
+  pub pauses : Type 0
 
--- A processor and a memory that are seen so.
+-- A processor and a memory that are seen so, with no pauses.
 abbrev pub semantics_of : {P M : Type 0} → (P → CoreView) → (M → List ℕ) → (M → ℕ) → (M → Type 0) → (M → Option MemStop)
     → (M → List ℕ → M → Type 0) → Semantics P M
 semantics_of core contents extent sound stopped moved =
-    record { core = core; contents = contents; extent = extent; sound = sound; stopped = stopped; moved = moved }
+    record { core = core; contents = contents; extent = extent; sound = sound; stopped = stopped; moved = moved; pauses = ⊥ }
 
 -- The sink gained these bytes, and no write of it failed.
 pub record SinkGoes (out : SinkState) (printed : List ℕ) (out' : SinkState) : Type 0 where
@@ -59,7 +60,7 @@ module _ {P M : Type 0} (means : Semantics P M) where
     pub reaches : means.sound to.memory → (start : Machine) (before : List ℕ) → StandsWith start from before →
         StandsWith start to (before ++ printed)
     pub walked : means.sound to.memory → (start : Machine) (before : List ℕ) → StandsWith start from before →
-        IsWalked means.stopped means.contents means.moved start from.retired to.retired from.memory to.memory
+        IsWalked means.stopped means.contents means.moved means.pauses start from.retired to.retired from.memory to.memory
 
   -- The last turn ended it so.
   pub record HasEnded (from : ExecutionView P M) (printed : List ℕ) (ending : Ending) (to : ExecutionView P M) : Type 0 where
@@ -82,10 +83,14 @@ module _ {P M : Type 0} (means : Semantics P M) where
     -- those of one more
     pub trail : means.sound to.memory → (start : Machine) (before : List ℕ) → StandsWith start from before →
         HasTrail means.stopped means.contents means.moved start from.retired to.retired from.memory to.memory
+    -- where it ended between two instructions, nothing but pauses came after the last one
+    pub none_left : EndsBetween ending → means.sound to.memory → (start : Machine) (before : List ℕ) → StandsWith start from before →
+        IsWalked means.stopped means.contents means.moved means.pauses start from.retired to.retired from.memory to.memory
 
   -- A pause: calls that touched no line led to another memory. Where that can be relied on, it has the same bytes, and the
   -- processor, the services and the count are the same.
   pub record IsPause (from to : ExecutionView P M) : Type 0 where
+    pub allowed : means.pauses
     pub budget : to.budget ≡ from.budget
     pub within : to.retired ≤ to.budget
     pub going : means.stopped to.memory ≡ None

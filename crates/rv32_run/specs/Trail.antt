@@ -1,5 +1,5 @@
 -- The memories that a run went through, one after each instruction that was retired.
-use Rattle.std.specs.Prelude.{◌≡◌, ℕ, zero, suc, ◌+◌, List, [], Option, None}
+use Rattle.std.specs.Prelude.{◌≡◌, ◌⊎◌, ℕ, zero, suc, ◌+◌, List, [], Option, None}
 use Rattle.sec_base.specs.declared.stop.MemStop.{MemStop}
 use Rattle.sec_base.specs.Prefix.{IsPrefix}
 use Rattle.rv32_core.specs.Machine.{Machine, plain}
@@ -31,11 +31,14 @@ pub record HasTrail {M : Type 0} (stopped : M → Option MemStop) (contents : M 
   pub rest : moved last lines end
   pub unretired : IsPrefix lines (touched_lines (plain start to).state)
 
--- The instructions from one count to another led from a memory to the last one, and from there to now calls that touched no
--- line.
-pub record IsWalked {M : Type 0} (stopped : M → Option MemStop) (contents : M → List ℕ) (moved : M → List ℕ → M → Type 0) (start : Machine) (from to : ℕ) (first now : M) : Type 0 where
+-- What was made of a memory since an instruction: nothing, or, where there may be pauses, calls that touched no line.
+abbrev pub IsIdle : {M : Type 0} → (M → List ℕ → M → Type 0) → Type 0 → M → M → Type 0
+IsIdle moved pauses last now = (last ≡ now) ⊎ (pauses × moved last [] now)
+
+-- The instructions from one count to another led from a memory to the last one, and nothing but pauses from there to now.
+pub record IsWalked {M : Type 0} (stopped : M → Option MemStop) (contents : M → List ℕ) (moved : M → List ℕ → M → Type 0) (pauses : Type 0) (start : Machine) (from to : ℕ) (first now : M) : Type 0 where
   pub count : ℕ
   pub counted : from + count ≡ to
   pub last : M
   pub trail : IsTrail stopped contents moved start from count first last
-  pub rest : moved last [] now
+  pub rest : IsIdle moved pauses last now

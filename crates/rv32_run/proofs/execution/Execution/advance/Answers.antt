@@ -1,5 +1,5 @@
 use Rattle.std.proofs.Common.{◌<◌, ◌≤◌, Some, refl, sym, ap, subst, arith}
-use Rattle.rv32_run.specs.Progress.{Semantics, PrintsAndGoes, semantics_of}
+use Rattle.rv32_run.specs.Progress.{Semantics, semantics_of}
 use Rattle.rv32_run.specs.ExecutionView.{ExecutionView}
 use Rattle.rv32_run.proofs.Progress.{prints_not, prints_on, prints_to_end, turn_ends, turn_goes}
 use Rattle.rv32_run.proofs.execution.Execution.advance.Given.{Over}

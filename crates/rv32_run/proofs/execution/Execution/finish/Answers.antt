@@ -14,4 +14,4 @@ returns-in-None g c =
     let went = c.advance-2.ensures.goes is in
     let used : c.advance-2.new.self.retired ≡ c.advance-2.new.self.budget =
     c.advance-2.ensures.arrived is ∙ (ap (λ (now : ExecutionView g.row.P.Denot g.row.M.Denot). now.budget) c.advance.view_is ∙ sym went.goes.budget) in
-    record { ended = prints_used_up (means_of g) _ _ (g.S.Sink.state c.args.out.now) _ went used }
+    record { ended = prints_used_up (means_of g) g.met.M.Ram.unmoved _ _ (g.S.Sink.state c.args.out.now) _ went used }

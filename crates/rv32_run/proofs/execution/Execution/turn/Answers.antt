@@ -16,7 +16,7 @@ returns-then-self-clause-ends g c =
     let now = c.args.self.now in
     let out = g.S.Sink.state c.args.out.now in
     let used : now.retired ≡ now.budget = cc in
-    prints_used_up (means_of g) now now out out
+    prints_used_up (means_of g) g.met.M.Ram.unmoved now now out out
     (prints_not (means_of g) g.met.M.Ram.unmoved g.met.M.Ram.moved_on out now now refl c.requires.within c.requires.going) used
 
 pub returns-clause-goes : goal.returns-clause-goes
