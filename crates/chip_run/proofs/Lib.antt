@@ -8,3 +8,4 @@ pub mod Reports
 pub mod Runs
 pub mod Ran
 pub mod Outcomes
+pub mod Sessions

@@ -12,6 +12,7 @@ use Rattle.sec_base.specs.Geometry.{line_count}
 use Rattle.sec_base.specs.LastMessage.{data_part, last_data}
 use Rattle.sec_base.specs.Prefix.{IsPrefix}
 use Rattle.sec_base.specs.declared.ending.Ending.{Ending}
+use Rattle.sec_base.specs.declared.ending.Ending.TheVariants.{Halted, Trapped, OutOfSteps, Tampered, Spent, WriteFault, NoMemory}
 use Rattle.sec_base.specs.declared.message.Message.{Message}
 use Rattle.sec_base.specs.declared.message.Message.TheVariants.{Line, Node}
 use Rattle.sec_base.specs.declared.place.Place.{Place}
@@ -27,7 +28,7 @@ use Rattle.pad_stream.specs.Pad.{cipher_of}
 use Rattle.rv32_core.specs.Machine.{plain}
 use Rattle.rv32_core.specs.TouchedLines.{touched_lines}
 use Rattle.rv32_core.specs.Turnover.{is_old}
-use Rattle.rv32_run.specs.Execution.{IsMemoryEnding}
+use Rattle.rv32_run.specs.Execution.{EndsBetween, IsMemoryEnding}
 use Rattle.rv32_run.specs.Trail.{IsTrail}
 use Rattle.checked_bus.specs.Makes.{HasAccesses, MakesAccesses, access_of}
 use Rattle.checked_bus.proofs.Makes.{has_on, same_tags}
@@ -414,12 +415,46 @@ module _ {B T : Type 0} (d n : T → List ℕ → List ℕ) (history : B → Bus
         encrypts = λ at below. absurd (omega (arith, below));
       }
 
-  -- and with what was accessed after the last one
+  -- with nothing that was accessed after the last one
+  pub with_none : (count : ℕ) (now : SecureRamView B T) (ending : Ending) → HasPieces count now →
+      (makes : MakesAccesses bus_moved (tags_of d n booted.lines.engine) booted.lines.bus booted.lines.engine now.lines.bus now.lines.engine now.lines.stopped)
+      × GoesByInstruction basis (history now.lines.bus) makes.accesses (made now) count ending
+  with_none count now ending all =
+      let tags = tags_of d n booted.lines.engine in
+      let accesses : List Access = all.stored ++ joined all.pieces in (
+        record {
+          accesses = accesses;
+          moved = all.moved;
+          has = subst (λ (stop : Option MemStop). HasAccesses tags booted.lines.engine now.lines.engine accesses stop) (sym all.going) all.has;
+        },
+        record {
+          stored = all.stored;
+          pieces = all.pieces;
+          last = [];
+          all = ap (λ (xs : List Access). all.stored ++ xs) (sym (append-nil (joined all.pieces)));
+          each = all.each;
+          none_left = λ between. refl;
+          held = λ at. get_or all.helds at [];
+          few = all.few;
+          touched = all.touched;
+          kept = all.kept;
+          encrypts_stored = all.encrypts_stored;
+          encrypts = all.encrypts;
+          encrypts_last =
+              let whole = made_is count now all in (
+                memory_at count,
+                (λ going. refl),
+                inl (record { says = λ at line counter cipher begun below. absurd (omega (arith, whole, begun, below)) }),
+              );
+        },
+      )
+
+  -- and with what was accessed after it
   pub with_rest : (count : ℕ) (now end : SecureRamView B T) (lines : List ℕ) (ending : Ending) → HasPieces count now → means now lines end → IsPrefix lines (lines_at count) → IsQuiet end →
-      (¬ IsMemoryEnding ending → contents end ≡ memory_at count) →
+      (¬ IsMemoryEnding ending → contents end ≡ memory_at count) → ¬ EndsBetween ending →
       (makes : MakesAccesses bus_moved (tags_of d n booted.lines.engine) booted.lines.bus booted.lines.engine end.lines.bus end.lines.engine end.lines.stopped)
       × GoesByInstruction basis (history end.lines.bus) makes.accesses (made end) count ending
-  with_rest count now end lines ending all rest unretired quiet leaves =
+  with_rest count now end lines ending all rest unretired quiet leaves within =
       let tags = tags_of d n booted.lines.engine in
       let front : List Access = all.stored ++ joined all.pieces in
       let makes = rest.moves.trace (ap lasting_stop all.going) in
@@ -440,6 +475,7 @@ module _ {B T : Type 0} (d n : T → List ℕ → List ℕ) (history : B → Bus
           last = makes.accesses;
           all = append_assoc all.stored (joined all.pieces) makes.accesses;
           each = all.each;
+          none_left = λ between. absurd (within between);
           held = λ at. get_or all.helds at [];
           few = all.few;
           touched = λ at line below listed. still at line (all.touched at line below listed);
@@ -459,6 +495,36 @@ pub goes_as : {basis : Basis} {after after' : BusHistory} {accesses : List Acces
     after' ≡ after → made' ≡ made → retired' ≡ retired → GoesByInstruction basis after accesses made retired ending → GoesByInstruction basis after' accesses made' retired' ending
 goes_as after_is made_is retired_is goes = rw (after_is, made_is, retired_is) goes
 
+-- The budget or the program ends a run between two instructions, and never its memory.
+
+pub between_or_not : (ending : Ending) → EndsBetween ending ⊎ (¬ EndsBetween ending)
+between_or_not OutOfSteps = inl (inl refl)
+between_or_not (Halted code) = inl (inr (code, refl))
+between_or_not (Trapped cause pc) = inr (λ between. elim between [
+  | inl is ↦ cc
+  | inr (code, is) ↦ cc
+])
+between_or_not (Tampered place) = inr (λ between. elim between [
+  | inl is ↦ cc
+  | inr (code, is) ↦ cc
+])
+between_or_not (Spent page) = inr (λ between. elim between [
+  | inl is ↦ cc
+  | inr (code, is) ↦ cc
+])
+between_or_not WriteFault = inr (λ between. elim between [
+  | inl is ↦ cc
+  | inr (code, is) ↦ cc
+])
+between_or_not NoMemory = inr (λ between. elim between [
+  | inl is ↦ cc
+  | inr (code, is) ↦ cc
+])
+
+by_program : (ending : Ending) → EndsBetween ending → ¬ IsMemoryEnding ending
+by_program ending (inl is) ended = subst IsMemoryEnding is ended
+by_program ending (inr (code, is)) ended = subst IsMemoryEnding is ended
+
 -- A run that retired no instruction, whose memory stopped while its program was stored
 pub none_retired : (basis : Basis) (after : BusHistory) (accesses : List Access) (made : List Message) (retired : ℕ) (ending : Ending) (new : List ℕ) → retired ≡ 0 → IsMemoryEnding ending →
     EncryptsContents basis.enc_key made 0 (length made) basis.stored_lines (replicate (64 * line_count basis.geometry) 0) new →
@@ -469,6 +535,7 @@ none_retired basis after accesses made retired ending new none stopped encrypts 
   last = accesses;
   all = refl;
   each = refl;
+  none_left = λ between. absurd (by_program ending between stopped);
   held = λ at. [];
   few = λ at within. omega arith;
   touched = λ at line below. absurd (omega (arith, below));

@@ -14,10 +14,10 @@ use Rattle.checked_bus.specs.Makes.{IsShownIn, MakesAccesses, access_of}
 use Rattle.rv32_core.specs.Machine.{Machine, plain}
 use Rattle.rv32_core.specs.State.{CoreView}
 use Rattle.rv32_core.specs.TouchedLines.{touched_lines}
-use Rattle.rv32_run.specs.Execution.{CarriesEnding, FollowsWith, IsMemoryEnding}
+use Rattle.rv32_run.specs.Execution.{CarriesEnding, EndsBetween, FollowsWith, IsMemoryEnding}
 use Rattle.rv32_run.specs.ExecutionView.{ExecutionView}
 use Rattle.rv32_run.specs.Progress.{StandsWith}
-use Rattle.rv32_run.specs.Trail.{IsTrail}
+use Rattle.rv32_run.specs.Trail.{IsIdle, IsTrail}
 use Rattle.counter_cache.specs.Counters.{most_blocks}
 use Rattle.line_cache.specs.LineCache.{most_held}
 use Rattle.page_reencrypt.specs.SealedLines.{enc_key, geometry}
@@ -32,7 +32,7 @@ use Rattle.chip_run.specs.declared.record.RunRecord.{RunRecord}
 use Rattle.chip_run.proofs.Closing.{stopped_tampered, unwritten_most}
 use Rattle.chip_run.proofs.Ends.{OfInstructions, OfMemory, ReadsTurnover, ran_protected}
 use Rattle.chip_run.proofs.Memories.{run_contents, run_memory, run_reads}
-use Rattle.chip_run.proofs.Pieces.{along, begins, encrypts_as, encrypts_front, goes_as, none_retired, with_rest}
+use Rattle.chip_run.proofs.Pieces.{HasPieces, along, begins, between_or_not, encrypts_as, encrypts_front, goes_as, none_retired, with_none, with_rest}
 use Rattle.chip_run.proofs.Runs.{opening_zeros, ran_instructions}
 use Rattle.chip_run.proofs.Turned.{IsBooted, few_begun, run_turned}
 
@@ -41,6 +41,11 @@ begins_with : (start reached : Machine) (n : ℕ) → plain start n ≡ reached 
 unfolding plain
 begins_with start reached n here none =
     sym (ap (λ (machine : Machine). machine.state.memory) here) ∙ ap (λ (k : ℕ). (plain start k).state.memory) none
+
+-- where there are no pauses, nothing came after the last instruction
+unpaused : {M : Type 0} (last now : M) (moved : M → List ℕ → M → Type 0) → IsIdle moved ⊥ last now → last ≡ now
+unpaused last now moved (inl same) = same
+unpaused last now moved (inr paused) = absurd paused.0
 
 module _ {B T : Type 0} (d n : T → List ℕ → List ℕ) (history : B → BusHistory) (bus_moved : B → List Access → B → Type 0)
     (bus_moved_on : (a b c : B) (before after : List Access) → bus_moved a before b → bus_moved b after c → bus_moved a (before ++ after) c) (bus : B) (tagger : T) (terms : Terms) where
@@ -169,28 +174,55 @@ module _ {B T : Type 0} (d n : T → List ℕ → List ℕ) (history : B → Bus
 
     -- What the run accessed: by instructions where there is no evidence
     module _ (told : (old new : B) (accesses : List Access) → bus_moved old accesses new → CameBy (history old) accesses (history new)) where
-      by_instructions : run.evidence ≡ None → (accesses : List Access) × bus_moved bus accesses closed × KeepsAccesses terms (history closed) accesses run
-      by_instructions quiet =
+      -- what so many instructions accessed
+      pieces : (count : ℕ) (last : SecureRamView B T) → IsQuiet now.memory → IsQuiet last →
+          IsTrail (λ m. stopped m) (λ m. contents m) (λ a xs b. IsMoved history bus_moved (tags_of d n) a xs b) terms.start went.first.retired count went.first.memory last →
+          HasPieces d n history bus_moved bus_moved_on told (basis_of terms) went.begun.stored.booted went.begun.stored.new.unmade count last
+      pieces count last sound quiet trail =
           let stored = went.begun.stored in
           let first = went.first.memory in
-          let sound = sound_to_end quiet in
-          let there = begun_there sound in
-          let trail = went.ended.trail sound terms.start [] there in
-          let all =
-          along d n history bus_moved bus_moved_on told (basis_of terms) stored.booted stored.new.unmade trail.count first trail.last
+          along d n history bus_moved bus_moved_on told (basis_of terms) stored.booted stored.new.unmade count first last
           (begins d n history bus_moved bus_moved_on told (basis_of terms) stored.booted stored.new.unmade first
           (subst (λ (lines : List ℕ). IsMoved history bus_moved (tags_of d n) stored.booted lines first) (stored.whole went.begun.going) stored.stored)
           stored.new.going went.begun.going (went.ended.moved.lost sound) stored.new.key_is (empty first stored)
-          (begins_with terms.start _ went.first.retired there went.begun.none_retired) (stored_booted first stored).few)
-          (was_none (evidence trail.last) (evidence now.memory) trail.rest.moves.step.evidence sound)
-          (subst (λ (from : ℕ). IsTrail (λ m. stopped m) (λ m. contents m) (λ a xs b. IsMoved history bus_moved (tags_of d n) a xs b) terms.start from trail.count first trail.last)
-          went.begun.none_retired trail.trail) in
+          (begins_with terms.start _ went.first.retired (begun_there sound) went.begun.none_retired) (stored_booted first stored).few)
+          quiet
+          (subst (λ (from : ℕ). IsTrail (λ m. stopped m) (λ m. contents m) (λ a xs b. IsMoved history bus_moved (tags_of d n) a xs b) terms.start from count first last)
+          went.begun.none_retired trail)
+
+      -- by instructions, with none after the last one
+      between_instructions : run.evidence ≡ None → EndsBetween run.ending → (accesses : List Access) × bus_moved bus accesses closed × KeepsAccesses terms (history closed) accesses run
+      between_instructions quiet between =
+          let stored = went.begun.stored in
+          let sound = sound_to_end quiet in
+          let walked = went.ended.none_left (subst EndsBetween ending_is between) sound terms.start [] (begun_there sound) in
+          let all =
+          pieces walked.count now.memory sound sound
+          (subst (λ (m : SecureRamView B T). IsTrail (λ m. stopped m) (λ m. contents m) (λ a xs b. IsMoved history bus_moved (tags_of d n) a xs b) terms.start went.first.retired walked.count went.first.memory m)
+          (unpaused walked.last now.memory (λ a xs b. IsMoved history bus_moved (tags_of d n) a xs b) walked.rest) walked.trail) in
+          let count : run.retired ≡ walked.count = omega (arith, retired_is, went.begun.none_retired, walked.counted) in
+          let whole = with_none d n history bus_moved bus_moved_on told (basis_of terms) stored.booted stored.new.unmade walked.count now.memory run.ending all in
+          kept_accesses went.first.memory now.memory closed run stored whole.0 out carries (λ none. goes_as {accesses = whole.0.accesses} (ap history out.bus_is) out.made_is count whole.1)
+
+      -- and with those of one that was not retired
+      in_an_instruction : run.evidence ≡ None → ¬ EndsBetween run.ending → (accesses : List Access) × bus_moved bus accesses closed × KeepsAccesses terms (history closed) accesses run
+      in_an_instruction quiet within =
+          let stored = went.begun.stored in
+          let sound = sound_to_end quiet in
+          let trail = went.ended.trail sound terms.start [] (begun_there sound) in
+          let all = pieces trail.count trail.last sound (was_none (evidence trail.last) (evidence now.memory) trail.rest.moves.step.evidence sound) trail.trail in
           let count : run.retired ≡ trail.count = omega (arith, retired_is, went.begun.none_retired, trail.counted) in
           let whole =
           with_rest d n history bus_moved bus_moved_on told (basis_of terms) stored.booted stored.new.unmade trail.count trail.last now.memory trail.lines run.ending all trail.rest
           (subst (λ (k : ℕ). IsPrefix trail.lines (touched_lines (plain terms.start k).state)) (sym retired_is ∙ count) trail.unretired) sound
-          (λ going. (follows quiet).leaves going ∙ ap (λ (k : ℕ). (plain terms.start k).state.memory) count) in
-          kept_accesses first now.memory closed run stored whole.0 out carries (λ none. goes_as {accesses = whole.0.accesses} (ap history out.bus_is) out.made_is count whole.1)
+          (λ going. (follows quiet).leaves going ∙ ap (λ (k : ℕ). (plain terms.start k).state.memory) count) within in
+          kept_accesses went.first.memory now.memory closed run stored whole.0 out carries (λ none. goes_as {accesses = whole.0.accesses} (ap history out.bus_is) out.made_is count whole.1)
+
+      by_instructions : run.evidence ≡ None → (accesses : List Access) × bus_moved bus accesses closed × KeepsAccesses terms (history closed) accesses run
+      by_instructions quiet = elim (between_or_not run.ending) [
+        | inl between ↦ between_instructions quiet between
+        | inr within ↦ in_an_instruction quiet within
+      ]
 
       pub ran_accesses : (accesses : List Access) × bus_moved bus accesses closed × KeepsAccesses terms (history closed) accesses run
       ran_accesses = elim (some_or_none run.evidence) [

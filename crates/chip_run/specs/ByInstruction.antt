@@ -12,7 +12,7 @@ use Rattle.bus_model.specs.BusHistory.{BusHistory}
 use Rattle.rv32_core.specs.Machine.{Machine, plain}
 use Rattle.rv32_core.specs.TouchedLines.{touched_lines}
 use Rattle.rv32_core.specs.Turnover.{is_old}
-use Rattle.rv32_run.specs.Execution.{IsMemoryEnding}
+use Rattle.rv32_run.specs.Execution.{EndsBetween, IsMemoryEnding}
 use Rattle.secure_memory.specs.Encrypted.{EncryptsContents}
 
 -- What a program's run rests on: the plain machine as it begins, the lines that storing it touches, one for each store, the
@@ -72,14 +72,18 @@ module _ (basis : Basis) where
         ⊎ (WasReadIn after (Line line) (slice_index_or pieces count [])
         ⊎ (IsUnwritten (Line line) (accesses_until stored pieces count) × (is_old (memory_after count) line ≡ false)))
 
-    -- Refused: a run that doesn't read the lines of an instruction for it, or encrypts anything but what the lines have. The
-    -- accesses are those that stored the image, those of each retired instruction, and those of what did not finish.
+    -- Refused, by what stands at the boundaries of instructions: a line that an instruction touches, or that is held after it,
+    -- and that was neither held before it, nor read for it, nor zeros that were never written; and a message of a line that says
+    -- neither what the line had before its instruction, nor what it had after it, nor anew what its last message said. Of the
+    -- order within an instruction nothing is said, nor of a message that was made between two calls on its line. The accesses
+    -- are those that stored the image, those of each retired instruction, and those of what did not finish.
     pub record GoesByInstruction (accesses : List Access) (made : List Message) (retired : ℕ) (ending : Ending) : Type 0 where
       pub stored : List Access
       pub pieces : List (List Access)
       pub last : List Access
       pub all : accesses ≡ stored ++ (joined pieces ++ last)
       pub each : length pieces ≡ retired
+      pub none_left : EndsBetween ending → last ≡ []
       -- Some lines, at most 128, are held at each time; these, once so many instructions were retired.
       pub held : ℕ → List ℕ
       pub few : (count : ℕ) → count ≤ retired → length (held count) ≤ most_left

@@ -2,3 +2,4 @@ pub mod ByInstruction
 pub mod Report
 pub mod Run
 pub mod Running
+pub mod Session

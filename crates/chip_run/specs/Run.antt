@@ -117,8 +117,8 @@ pub record KeepsLists (allowed : ℕ → Type 0) (terms : Terms) (after : BusHis
   pub holds_last : run.ending ≢ NoMemory → HoldsLast terms.tag_of (line_count terms.geometry) run.made after.written
   pub nodes_hold_last : run.ending ≢ NoMemory → NodesHoldLast terms.geometry run.made after.written
 
--- Refused: a list of messages that is not what was written to the bus, one by one. The accesses are all that the run made of its
--- bus, in order.
+-- Refused: a list of messages that is not what was written to the bus, one by one, but for the last one where the run ended out of
+-- memory. The accesses are all that the run made of its bus, in order.
 pub record KeepsAccesses (terms : Terms) (after : BusHistory) (accesses : List Access) (run : RunRecord) : Type 0 where
   -- each write puts out one message, in order: a line's ciphertext with its tag, or a node's block, whose tag goes into its
   -- parent; where the run ended out of memory, the last message may not have been written

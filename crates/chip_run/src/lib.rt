@@ -11,16 +11,13 @@ ghost use Rattle.chip_run.specs.Run.{KeepsAccesses, RunsProtected, run_terms};
 mod close;
 mod record;
 mod report;
-mod running;
+mod session;
 
 use bus_model::Bus;
-use close::{close, no_run};
+use close::no_run;
 pub use record::{RunRecord, Setup};
-use report::signed_report;
-use running::{BootFailure, Running};
-use rv32_run::ending_of;
-use sec_base::{Image, Sink, Tagger};
-use sha2::{Digest, Sha256};
+use sec_base::{Image, NoMemoryWith, Sink, Tagger};
+pub use session::Session;
 use std::alloc::Global;
 
 /// Runs a program on an input, in a memory that stands outside the chip, and writes what it prints to a sink. The bus
@@ -52,16 +49,10 @@ pub fn run<B: Bus, T: Tagger, S: Sink>(
         (engine_tag (T.data_tag_of tagger) (T.node_tag_of tagger) setup.now.geometry))
         (B.history result.1) accesses result.0 }
 {
-    let mut running = match Running::boot(alloc, image, input, setup, tagger, bus) {
-        Ok(running) => running,
-        Err(BootFailure::NoMemory(bus)) => return (no_run(alloc), bus),
-        Err(BootFailure::Stopped(memory, stop)) => {
-            let ending = ending_of(stop);
-            let nothing = Sha256::new().finalize();
-            let report = signed_report(image, input, setup, nothing, 0, ending);
-            return close(memory, 0, ending, report);
-        }
+    let mut session = match Session::boot(alloc, image, input, setup, tagger, bus) {
+        Ok(session) => session,
+        Err(NoMemoryWith(bus)) => return (no_run(alloc), bus),
     };
-    let ending = running.execution.finish(out);
-    running.close(image, input, setup, ending)
+    session.go_on(out);
+    session.finish()
 }
