@@ -1,6 +1,6 @@
--- What a call makes of a bus and a tag engine, told by its accesses. `HasAccesses`, `MakesAccesses` and `Makes` hold of no call,
--- which is no access, and of two calls one after the other, by the accesses of both, where they hold of each, the first did not
--- stop, and it leaves what the second expects.
+-- What a call makes of a bus and a tag engine, told by its accesses. `Makes` holds of no call, which is no access, and of two
+-- calls one after the other, by the accesses of both, where it holds of each, the first did not stop, and it leaves what the
+-- second expects; `HasAccesses` and `MakesAccesses` too, where the first keeps the geometry and the second the first's evidence.
 use Rattle.std.specs.Prelude.{◌≡◌, ◌≢◌, ◌⊎◌, ℕ, ◌+◌, ◌-◌, ◌<◌, ◌≤◌, List, [], ◌∷◌, ◌++◌, length, map, Option, Some, None, Result, Ok, Err}
 use Rattle.std.specs.Result.{result_err}
 use Rattle.sec_base.specs.Count.{Rose}
@@ -87,7 +87,7 @@ pub record Makes {T : Type 0} (tag_of : Message → List ℕ) (expected : List (
   pub checked : IsChecked tag_of expected history engine history' engine' stop
 
 -- A checked read of a line is one read of its place, or none where there was no memory for it. What is expected is that the
--- counter is the line's last.
+-- counter is the line's last, and that the place holds what was tagged under it.
 pub record ReadsLine {T : Type 0} (tag_of : Message → List ℕ) (line : ℕ) (counter : Counter) (history : BusHistory)
     (engine : TagEngineView T) (history' : BusHistory) (engine' : TagEngineView T) (accesses : List Access)
     (result : Result (List ℕ) MemStop) : Type 0 where
@@ -96,7 +96,7 @@ pub record ReadsLine {T : Type 0} (tag_of : Message → List ℕ) (line : ℕ) (
       history engine history' engine' accesses (result_err result)
 
 -- A checked read of a node is one read of its place, or none where there was no memory for it. What is expected is that the tag
--- is that of the node's last block.
+-- is that of the node's last block, and that the place holds that block.
 pub record ReadsNode {T : Type 0} (tag_of : Message → List ℕ) (level index : ℕ) (tag : List ℕ) (history : BusHistory)
     (engine : TagEngineView T) (history' : BusHistory) (engine' : TagEngineView T) (accesses : List Access)
     (result : Result (List ℕ) MemStop) : Type 0 where

@@ -73,10 +73,11 @@ module _ (basis : Basis) where
         ⊎ (IsUnwritten (Line line) (accesses_until stored pieces count) × (is_old (memory_after count) line ≡ false)))
 
     -- Refused, by what stands at the boundaries of instructions: a line that an instruction touches, or that is held after it,
-    -- and that was neither held before it, nor read for it, nor zeros that were never written; and a message of a line that says
-    -- neither what the line had before its instruction, nor what it had after it, nor anew what its last message said. Of the
-    -- order within an instruction nothing is said, nor of a message that was made between two calls on its line. The accesses
-    -- are those that stored the image, those of each retired instruction, and those of what did not finish.
+    -- and that was neither held before it, nor read for it (unless its count of reads is at its end), nor zeros that were never
+    -- written; and a message of a line that says neither what the line had before its instruction, nor what it had after it, nor
+    -- anew what its last message said. Of the order within an instruction nothing is said, nor of a message of a line that it
+    -- touches more than once. The accesses are those that stored the image, those of each retired instruction, and those of what
+    -- did not finish.
     pub record GoesByInstruction (accesses : List Access) (made : List Message) (retired : ℕ) (ending : Ending) : Type 0 where
       pub stored : List Access
       pub pieces : List (List Access)

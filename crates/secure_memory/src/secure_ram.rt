@@ -183,7 +183,7 @@ impl<B: Bus, T: Tagger> Ram for SecureRam<B, T> {
             (leaving self.old.ways (line_of addr)) (result_err result) self.new }
 
         // A line that is not held is read, once the changed line that goes out for it was written. With evidence too, it goes by
-        // the counters that were had, and what passed though it was never tagged is used as it was answered.
+        // the counters that were had, and a line that passed though it was never tagged is used as it was answered.
         ensures missed { stopped self.old ≡ None → ¬ Contains (held_lines self.old) (line_of addr) →
             IsMissed (ReadMoved B.history B.moved (tags_of T.data_tag_of T.node_tag_of))
             (WriteMoved B.history B.moved (tags_of T.data_tag_of T.node_tag_of))
