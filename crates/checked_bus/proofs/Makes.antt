@@ -13,7 +13,7 @@ use Rattle.sec_base.specs.declared.stop.MemStop.TheVariants.{Tampered}
 use Rattle.sec_base.specs.Place.{IsPlace}
 use Rattle.bus_model.specs.Access.{Access, Read, Write, AreOf, CameBy, EndsWithRead, after_all, writes_in, came_on}
 use Rattle.bus_model.specs.BusHistory.{BusHistory}
-use Rattle.bus_model.proofs.Accesses.{all_accesses, all_geometry, all_lies, all_reads_of, writes_joined}
+use Rattle.bus_model.proofs.Accesses.{all_accesses, all_lies, all_reads_of, writes_joined}
 use Rattle.tag_engine.specs.TagEngine.{TagEngineView, tags_of}
 use Rattle.checked_bus.specs.Makes.{access_of, HasAccesses, HasCount, IsShownIn, IsChecked, Makes, MakesAccesses}
 use Rattle.checked_bus.specs.Steps.{Moves, unwritten_in}
@@ -44,6 +44,7 @@ pub makes_not : {T : Type 0} (tag_of : Message → List ℕ) (expected : List (�
     (history : BusHistory) (engine : TagEngineView T) → Makes tag_of expected history engine history engine [] None
 makes_not tag_of expected history engine = record {
   came = refl;
+  bus_geometry = refl;
   has = has_not tag_of engine None (λ place is. cc);
   geometry = refl;
   tagger = refl;
@@ -171,7 +172,7 @@ lies_rose old new accesses came = subst (λ (t : BusHistory). RoseBy 0 old.lies 
 pub makes_moves : {T : Type 0} {tag_of : Message → List ℕ} {expected : List (ℕ × Counter) → Type 0} {old new : BusHistory} {engine engine' : TagEngineView T}
     {accesses : List Access} {stop : Option MemStop} → Makes tag_of expected old engine new engine' accesses stop → Moves old engine new engine'
 makes_moves {old = old} {new = new} {accesses = accesses} makes = record {
-  bus_geometry = ap (λ (t : BusHistory). t.geometry) makes.came ∙ all_geometry accesses old;
+  bus_geometry = makes.bus_geometry;
   geometry = makes.geometry;
   tagger = makes.tagger;
   more = makes.has.written ++ makes.has.unwritten;
@@ -196,6 +197,7 @@ pub makes_on : {T : Type 0} (tag_of : Message → List ℕ) (expected expected' 
 makes_on tag_of expected expected' first second third engine engine' engine'' before after stop leaves makes more =
     record {
       came = came_on first second third before after makes.came more.came;
+      bus_geometry = more.bus_geometry ∙ makes.bus_geometry;
       has = has_on tag_of engine engine' engine'' before after stop makes.geometry more.checked.first makes.has more.has;
       geometry = more.geometry ∙ makes.geometry;
       tagger = more.tagger ∙ makes.tagger;
@@ -234,6 +236,7 @@ pub makes_under : {T : Type 0} (tag_of : Message → List ℕ) (expected expecte
     Makes tag_of expected old engine new engine' accesses stop → Makes tag_of expected' old engine new engine' accesses stop
 makes_under tag_of expected expected' old new engine engine' accesses stop under makes = record {
   came = makes.came;
+  bus_geometry = makes.bus_geometry;
   has = makes.has;
   geometry = makes.geometry;
   tagger = makes.tagger;

@@ -14,7 +14,7 @@ use Rattle.sec_base.specs.declared.stop.MemStop.TheVariants.{Tampered, NoMemory}
 use Rattle.sec_base.proofs.SamePlaces.{at_place-there}
 use Rattle.bus_model.specs.Access.{Access, Read, CameBy, EndsWithRead, after_all}
 use Rattle.bus_model.specs.BusHistory.{BusHistory, after_read}
-use Rattle.bus_model.proofs.Steps.{read_written, read_reads, read_accesses, read_rose}
+use Rattle.bus_model.proofs.Steps.{read_geometry, read_written, read_reads, read_accesses, read_rose}
 use Rattle.tag_engine.specs.TagEngine.{TagEngineView}
 use Rattle.checked_bus.specs.Makes.{HasAccesses, IsChecked, IsShownIn, Makes}
 use Rattle.checked_bus.specs.Steps.{IsAccounted, SameLines}
@@ -140,6 +140,7 @@ module _ {T : Type 0} (tag_of : Message → List ℕ) (expected : List (ℕ × C
       IsChecked tag_of expected history engine history' engine' stop → Makes tag_of expected history engine history' engine' (Read place bytes ∷ []) stop
   answer_makes place bytes shown answered engine_is inside shows tells checked = record {
     came = answered;
+    bus_geometry = ap (λ (t : BusHistory). t.geometry) answered ∙ read_geometry place bytes history;
     has = record {
       written = [];
       unwritten = [];
@@ -162,6 +163,7 @@ module _ {T : Type 0} (tag_of : Message → List ℕ) (expected : List (ℕ × C
       IsChecked tag_of expected history engine history' engine' stop → Makes tag_of expected history engine history' engine' [] stop
   nothing_makes same engine_is untampered checked = record {
     came = same;
+    bus_geometry = ap (λ (t : BusHistory). t.geometry) same;
     has = subst (λ (e : TagEngineView T). HasAccesses tag_of engine e [] stop) (sym engine_is) (has_not tag_of engine stop untampered);
     geometry = ap (λ (e : TagEngineView T). e.geometry) engine_is;
     tagger = ap (λ (e : TagEngineView T). e.tagger) engine_is;

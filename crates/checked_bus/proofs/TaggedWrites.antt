@@ -16,7 +16,7 @@ use Rattle.sec_base.specs.declared.stop.NoMemory.{NoMemory as refusal}
 use Rattle.sec_base.specs.declared.stop.MemStop.{MemStop}
 use Rattle.sec_base.specs.declared.stop.MemStop.TheVariants.{Tampered, NoMemory}
 use Rattle.bus_model.specs.Access.{Access, Write, AreOf, CameBy, after_all, after_one, one_write, writes_in}
-use Rattle.bus_model.proofs.Accesses.{untouched}
+use Rattle.bus_model.proofs.Accesses.{all_geometry, untouched}
 use Rattle.bus_model.specs.BusHistory.{BusHistory, after_write}
 use Rattle.tag_engine.specs.TagEngine.{TagEngineView, after_make}
 use Rattle.tag_engine.proofs.Forgeries.{still_genuine}
@@ -139,6 +139,7 @@ module _ {T : Type 0} (tag_of : Message → List ℕ) (message : Message) (histo
       WritesMessage tag_of message history engine history' engine' result
   write_makes inside {A} {E} (Ok value) came = record {
     came = came;
+    bus_geometry = ap (λ (t : BusHistory). t.geometry) came ∙ all_geometry (access_of tag_of message ∷ []) history;
     has = record {
       written = message ∷ [];
       unwritten = [];
@@ -158,6 +159,7 @@ module _ {T : Type 0} (tag_of : Message → List ℕ) (message : Message) (histo
   }
   write_makes inside {A} {E} (Err error) came = record {
     came = came;
+    bus_geometry = ap (λ (t : BusHistory). t.geometry) came;
     has = record {
       written = [];
       unwritten = message ∷ [];

@@ -80,6 +80,7 @@ pub record Makes {T : Type 0} (tag_of : Message → List ℕ) (expected : List (
     (history : BusHistory) (engine : TagEngineView T) (history' : BusHistory) (engine' : TagEngineView T)
     (accesses : List Access) (stop : Option MemStop) : Type 0 where
   pub came : CameBy history accesses history'
+  pub bus_geometry : history'.geometry ≡ history.geometry
   pub has : HasAccesses tag_of engine engine' accesses stop
   pub geometry : engine'.geometry ≡ engine.geometry
   pub tagger : engine'.tagger ≡ engine.tagger
