@@ -23,6 +23,7 @@ pub makes_refused : {T : Type 0} (tag_of : Message → List ℕ) (expected : Lis
     Makes tag_of expected history engine history engine [] (Some NoMemory)
 makes_refused tag_of expected history engine = record {
   came = refl;
+  bus_geometry = refl;
   has = has_not tag_of engine (Some NoMemory) (λ place is. cc);
   geometry = refl;
   tagger = refl;
@@ -60,6 +61,7 @@ module _ {T : Type 0} (d n : T → List ℕ → List ℕ) where
       let room : engine'.room ≡ max engine.room 1 - (length engine'.made - length engine.made) = makes.room in
       record {
         came = makes.came;
+        bus_geometry = makes.bus_geometry;
         has = record {
           written = makes.has.written;
           unwritten = makes.has.unwritten;
