@@ -12,6 +12,7 @@ mod programs;
 mod replay_bus;
 mod reports;
 mod tampering;
+mod turns;
 mod want_of_memory;
 
 use bus_model::{Bus, FlipBus, HonestBus};
