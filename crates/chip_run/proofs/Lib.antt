@@ -9,3 +9,5 @@ pub mod Runs
 pub mod Ran
 pub mod Outcomes
 pub mod Sessions
+pub mod Alone
+pub mod Pairs

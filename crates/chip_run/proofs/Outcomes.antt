@@ -29,12 +29,18 @@ storing_stopped terms before after run entry size segments input stop begins mem
 }
 
 -- no memory was found for its memory
+pub refused_comes : (terms : Terms) (before after : BusHistory) (run : RunRecord) (entry size : ℕ) (segments : List Segment) (input : List ℕ) →
+    terms.start ≡ opening_of entry size segments input → before.geometry ≡ terms.geometry → before.lies ≡ 0 → NothingWritten before → after ≡ before →
+    run.retired ≡ 0 → run.ending ≡ NoMemory → run.made ≡ [] → run.used ≡ [] → run.evidence ≡ None → run.report ≡ None → ComesTo terms [] before after run
+refused_comes terms before after run entry size segments input begins as_many honest empty same none ended none_made none_used quiet unsigned =
+    storing_stopped terms before after run entry size segments input no_memory begins
+    (subst (λ (bus : BusHistory). OfMemory terms before bus run) (sym same) (no_memory_run terms before run as_many honest empty ended none_made none_used quiet))
+    none ended (unreported terms.report (sha256 []) run.retired run.ending run.report ended unsigned)
+
 pub boot_refused : (terms : Terms) (out : SinkState) (before after : BusHistory) (run : RunRecord) (entry size : ℕ) (segments : List Segment) (input : List ℕ) →
     terms.start ≡ opening_of entry size segments input → before.geometry ≡ terms.geometry → before.lies ≡ 0 → NothingWritten before → after ≡ before →
     run.retired ≡ 0 → run.ending ≡ NoMemory → run.made ≡ [] → run.used ≡ [] → run.evidence ≡ None → run.report ≡ None →
     RunsProtected terms out out before after run
 boot_refused terms out before after run entry size segments input begins as_many honest empty same none ended none_made none_used quiet unsigned =
-    let comes = storing_stopped terms before after run entry size segments input no_memory begins
-    (subst (λ (bus : BusHistory). OfMemory terms before bus run) (sym same) (no_memory_run terms before run as_many honest empty ended none_made none_used quiet))
-    none ended (unreported terms.report (sha256 []) run.retired run.ending run.report ended unsigned) in
+    let comes = refused_comes terms before after run entry size segments input begins as_many honest empty same none ended none_made none_used quiet unsigned in
     record { printed = []; sink = stopped_sink out run.ending no_memory ended; ran = comes.ran; report = comes.report }

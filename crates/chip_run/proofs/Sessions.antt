@@ -4,7 +4,6 @@ use Rattle.std.specs.Result.{result_err}
 use Rattle.sha2.specs.Sha256.{sha256}
 use Rattle.sec_base.specs.Sink.{SinkState}
 use Rattle.sec_base.specs.declared.ending.Ending.{Ending}
-use Rattle.sec_base.specs.declared.image.Image.{Image}
 use Rattle.sec_base.specs.declared.stop.MemStop.{MemStop}
 use Rattle.bus_model.specs.Access.{Access, CameBy}
 use Rattle.bus_model.specs.BusHistory.{BusHistory}
@@ -18,12 +17,11 @@ use Rattle.rv32_run.specs.Progress.{PrintsAndEnds, PrintsAndGoes, Semantics, Sin
 use Rattle.rv32_run.proofs.Progress.{goes_on, goes_to_end}
 use Rattle.secure_memory.specs.Moving.{moved_on, unmoved}
 use Rattle.secure_memory.specs.SecureRam.{SecureRamView, stopped}
-use Rattle.chip_run.specs.Report.{signed_report}
+use Rattle.chip_run.specs.Report.{ReportTerms, signed_report}
 use Rattle.chip_run.specs.Run.{KeepsAccesses, Terms}
 use Rattle.chip_run.specs.Running.{HandsOut, HasRun, HasRunTo, HasStored, protected_by}
 use Rattle.chip_run.specs.Session.{CameTo, ComesTo, HasPrinted, HasStopped, PrintsOn, SessionView, SinkTakes}
 use Rattle.chip_run.specs.declared.record.RunRecord.{RunRecord}
-use Rattle.chip_run.specs.declared.record.Setup.{Setup}
 use Rattle.chip_run.proofs.Closing.{ends_as_stop}
 use Rattle.chip_run.proofs.Outcomes.{storing_stopped}
 use Rattle.chip_run.proofs.Ran.{ran, ran_accesses, stored_accesses, stored_memory}
@@ -69,9 +67,9 @@ module _ {B T : Type 0} (d n : T → List ℕ → List ℕ) (history : B → Bus
     leads = λ bus tagger terms before has. subst (λ (printed : List ℕ). HasPrinted d n history bus_moved bus tagger terms printed now) (sym (append-nil before)) has;
   }
 
-  module _ (image : Image) (input : List ℕ) (setup : Setup) where
+  module _ (report : ReportTerms) where
     abbrev session_of : ExecutionView CoreView (SecureRamView B T) → Option MemStop → Option Ending → SessionView B T
-    session_of execution kept ended = record { execution = execution; image = image; input = input; setup = setup; kept = kept; ended = ended }
+    session_of execution kept ended = record { execution = execution; report = report; kept = kept; ended = ended }
 
     -- one that answers a kept stop
     turns_kept : (out : SinkState) (now : ExecutionView CoreView (SecureRamView B T)) (stop : MemStop) →
@@ -81,7 +79,11 @@ module _ {B T : Type 0} (d n : T → List ℕ → List ℕ) (history : B → Bus
       sink = stopped_sink out (stop_ending stop) stop refl;
       leads = λ bus tagger terms before has.
           subst (λ (printed : List ℕ). HasPrinted d n history bus_moved bus tagger terms printed (session_of now (Some stop) (Some (stop_ending stop)))) (sym (append-nil before)) (record {
+            image = has.image;
+            input = has.input;
+            setup = has.setup;
             terms_are = has.terms_are;
+            report_is = has.report_is;
             honest = has.honest;
             taken = has.taken;
             came_to = (has.came_to.0, has.came_to.1, refl);
@@ -104,7 +106,11 @@ module _ {B T : Type 0} (d n : T → List ℕ → List ℕ) (history : B → Bus
         printed = went.printed;
         sink = went.sink;
         leads = λ bus tagger terms before has. record {
+          image = has.image;
+          input = has.input;
+          setup = has.setup;
           terms_are = has.terms_are;
+          report_is = has.report_is;
           honest = has.honest;
           taken = went.digest before has.taken;
           came_to = record {
@@ -124,7 +130,11 @@ module _ {B T : Type 0} (d n : T → List ℕ → List ℕ) (history : B → Bus
         printed = went.printed;
         sink = went.sink;
         leads = λ bus tagger terms before has. record {
+          image = has.image;
+          input = has.input;
+          setup = has.setup;
           terms_are = has.terms_are;
+          report_is = has.report_is;
           honest = has.honest;
           taken = went.digest before has.taken;
           came_to = record {
@@ -177,7 +187,7 @@ module _ {B T : Type 0} (d n : T → List ℕ → List ℕ) (history : B → Bus
         }
         | inr (none, stop, stops, is) ↦
             subst (λ (bytes : List ℕ). ComesTo terms bytes (history bus) (history closed) run) (sym none)
-            (storing_stopped terms (history bus) (history closed) run session.image.entry session.image.size session.image.segments session.input stop
+            (storing_stopped terms (history bus) (history closed) run has.image.entry has.image.size has.image.segments has.input stop
             (ap (λ (t : Terms). t.start) has.terms_are)
             (stored_memory d n history bus_moved bus_moved_on bus tagger terms stops.stored.lines session.execution.memory session.execution.memory closed run stops.stored stops.stored.stored out has.honest
             (ends_as_stop (stopped session.execution.memory) stop run.ending stops.stopped_so is))

@@ -1,5 +1,5 @@
--- A program that runs on protected memory: how it began, how far it came, and what it hands out. Contracts of private
--- functions and proofs alone cite it.
+-- A program that runs on protected memory: how it began, how far it came, and what it hands out. `HasPrinted`, which the contracts
+-- of a session cite, stands on it.
 use Rattle.std.specs.Prelude.{◌≡◌, ◌*◌, ◌^◌, ◌<◌, ◌≤◌, ℕ, List, [], length, None}
 use Rattle.sec_base.specs.declared.ending.Ending.{Ending}
 use Rattle.sec_base.specs.Prefix.{IsPrefix}

@@ -15,19 +15,17 @@ use Rattle.rv32_run.specs.Execution.{stop_ending}
 use Rattle.rv32_run.specs.ExecutionView.{ExecutionView}
 use Rattle.rv32_run.specs.Progress.{SinkEnds, SinkGoes}
 use Rattle.secure_memory.specs.SecureRam.{SecureRamView, stopped}
-use Rattle.chip_run.specs.Report.{signed_report}
+use Rattle.chip_run.specs.Report.{ReportTerms, signed_report}
 use Rattle.chip_run.specs.Run.{RanProtected, Terms, run_terms}
 use Rattle.chip_run.specs.Running.{HasRun, HasRunTo, HasStored}
 use Rattle.chip_run.specs.declared.record.RunRecord.{RunRecord}
 use Rattle.chip_run.specs.declared.record.Setup.{Setup}
 
--- A program on protected memory, what it is and how it is set up, the stop of its memory while it was stored, where there was
--- one, and the ending that a turn answered.
+-- A program on protected memory, what its report is of, the stop of its memory while it was stored, where there was one, and the
+-- ending that a turn answered.
 pub record SessionView (B T : Type 0) : Type 0 where
   pub execution : ExecutionView CoreView (SecureRamView B T)
-  pub image : Image
-  pub input : List ℕ
-  pub setup : Setup
+  pub report : ReportTerms
   pub kept : Option MemStop
   pub ended : Option Ending
 
@@ -56,8 +54,11 @@ module _ {B T : Type 0} (data_tag node_tag : T → List ℕ → List ℕ) (histo
     -- It is the session of a run of these terms over this bus, of which no answer was false before, and printed these bytes so
     -- far.
     pub record HasPrinted (printed : List ℕ) (session : SessionView B T) : Type 0 where
-      pub terms_are : terms ≡ run_terms session.image session.input session.setup
-          (engine_tag (data_tag tagger) (node_tag tagger) session.setup.geometry)
+      pub image : Image
+      pub input : List ℕ
+      pub setup : Setup
+      pub terms_are : terms ≡ run_terms image input setup (engine_tag (data_tag tagger) (node_tag tagger) setup.geometry)
+      pub report_is : terms.report ≡ session.report
       pub honest : (history bus).lies ≡ 0
       pub taken : HoldsTaken session.execution.calls.taken printed
       pub came_to : CameTo printed session.execution session.kept session.ended

@@ -9,12 +9,14 @@ ghost use Rattle.tag_engine.specs.Tag.{engine_tag};
 ghost use Rattle.chip_run.specs.Run.{KeepsAccesses, RunsProtected, run_terms};
 
 mod close;
+mod pair;
 mod record;
 mod report;
 mod session;
 
 use bus_model::Bus;
 use close::no_run;
+pub use pair::{PairRecord, Side, SideStop, isolated, run_pair};
 pub use record::{RunRecord, Setup};
 use sec_base::{Image, NoMemoryWith, Sink, Tagger};
 pub use session::Session;
@@ -43,7 +45,8 @@ pub fn run<B: Bus, T: Tagger, S: Sink>(
         (engine_tag (T.data_tag_of tagger) (T.node_tag_of tagger) setup.now.geometry))
         (S.state out.old) (S.state out.new) (B.history bus) (B.history result.1) result.0 }
 
-    // Some accesses led from the bus that was given to the one handed back; their writes are the run's messages, one by one.
+    // Some accesses led from the bus that was given to the one handed back; their writes are the run's messages,
+    // but for the last one where memory ran out.
     ensures accesses { (accesses : List Access) × B.moved bus accesses result.1
         × KeepsAccesses (run_terms image.now input.now setup.now
         (engine_tag (T.data_tag_of tagger) (T.node_tag_of tagger) setup.now.geometry))

@@ -1,18 +1,16 @@
 // The report of a run.
 ghost use Rattle.std.specs.Prelude.{◌≡◌};
-ghost use Rattle.elf_load.specs.Measurement.{measurement_of};
 ghost use Rattle.chip_run.specs.Report as told;
 
 use crate::record::Setup;
 use attest_report::{Report, ending_and_code, report2_bytes};
-use elf_load::measure;
-use sec_base::{Ending, Image};
+use sec_base::Ending;
 use sha2::{Digest, Sha256};
 
-// The signed report of a run whose output has this digest, that retired so many instructions and ended so, where its
+// The signed report of a run of a program with this measurement whose output has this digest, that retired so many instructions and ended so, where its
 // ending makes one.
 pub(crate) fn signed_report(
-    image: &Image,
+    measured: [u8; 32],
     input: &[u8],
     setup: &Setup,
     output_digest: [u8; 32],
@@ -20,7 +18,7 @@ pub(crate) fn signed_report(
     ending: Ending,
 ) -> Option<[u8; 159]>
     ensures { result ≡ told.signed_report (record {
-      measurement = measurement_of image.now;
+      measurement = measured;
       input = input.now;
       nonce = setup.now.nonce;
       layout = setup.now.geometry.layout;
@@ -29,7 +27,7 @@ pub(crate) fn signed_report(
 {
     let (ending, code) = ending_and_code(ending)?;
     let report = Report {
-        measurement: measure(image),
+        measurement: measured,
         input_digest: Sha256::digest(input),
         output_digest,
         retired,

@@ -1,5 +1,6 @@
 // A run turn by turn.
-ghost use Rattle.std.specs.Prelude.{◌≡◌, ◌≢◌, ◌+◌, ◌≤◌, ◌↔◌, [], List, None, Some, ℕ, IfErr, IfOk};
+ghost use Rattle.std.specs.Prelude.{◌≡◌, ◌≢◌, ◌+◌, ◌≤◌, ◌↔◌, [], List, None, Some, ℕ, IfErr, IfOk, length};
+ghost use Rattle.sec_base.specs.Count.{more_by};
 ghost use Rattle.sec_base.specs.Geometry.{memory_size};
 ghost use Rattle.sec_base.specs.declared.ending.Ending.{Ending};
 ghost use Rattle.sec_base.specs.declared.ending.Ending.TheVariants.{Halted, OutOfSteps};
@@ -7,15 +8,19 @@ ghost use Rattle.sec_base.specs.declared.stop.MemStop.{MemStop};
 ghost use Rattle.bus_model.specs.Access.{Access};
 ghost use Rattle.bus_model.specs.BusHistory.{NothingWritten};
 ghost use Rattle.tag_engine.specs.Tag.{engine_tag};
+ghost use Rattle.rv32_core.specs.Printing.{HoldsTaken};
 ghost use Rattle.rv32_run.specs.Execution.{retired_after, stop_ending};
 ghost use Rattle.secure_memory.specs.SecureRam.{stopped};
+ghost use Rattle.chip_run.specs.Pair.{stop_at};
 ghost use Rattle.chip_run.specs.Run.{KeepsAccesses, Terms, run_terms};
 ghost use Rattle.chip_run.specs.Session.{ComesTo, HasPrinted, PrintsOn};
 
 use crate::close::close;
+use crate::pair::SideStop;
 use crate::record::{RunRecord, Setup};
 use crate::report::signed_report;
 use bus_model::Bus;
+use elf_load::measure;
 use rv32_core::Core;
 use rv32_run::{Execution, ending_of, store_image};
 use sec_base::{Ending, Image, MemStop, NoMemoryWith, Sink, Tagger};
@@ -24,11 +29,12 @@ use std::alloc::Global;
 use std::marker::Model;
 
 /// A run of a program on an input, in a memory that stands outside the chip, turn by turn: each turn does one instruction.
+/// It can't be given up before a turn has answered how it ended, since its bus has to come back.
 pub struct Session<'a, B: Bus, T: Tagger> {
     execution: Execution<'a, Core, SecureRam<B, T>>,
-    image: &'a Image,
+    measured: [u8; 32],
     input: &'a [u8],
-    setup: &'a Setup,
+    setup: Setup,
     // The stop of its memory while the program was stored, where there was one.
     kept: Option<MemStop>,
     // The ending that a turn answered.
@@ -44,9 +50,13 @@ impl<'a, B: Bus, T: Tagger> Model for Session<'a, B, T> {
 
     ghost view = { λ session. record {
       execution = session.execution;
-      image = session.image.now;
-      input = session.input.now;
-      setup = session.setup.now;
+      report = record {
+        measurement = session.measured;
+        input = session.input.now;
+        nonce = session.setup.nonce;
+        layout = session.setup.geometry.layout;
+        report_key = session.setup.keys.report_key;
+      };
       kept = session.kept;
       ended = session.ended;
     } };
@@ -61,9 +71,9 @@ impl<'a, B: Bus, T: Tagger> Session<'a, B, T> {
     /// stop is kept for the first turn. Out of memory, the bus comes back.
     pub fn boot(
         alloc: Global,
-        image: &'a Image,
+        image: &Image,
         input: &'a [u8],
-        setup: &'a Setup,
+        setup: &Setup,
         tagger: T,
         bus: B,
     ) -> Result<Session<'a, B, T>, NoMemoryWith<B>>
@@ -94,9 +104,9 @@ impl<'a, B: Bus, T: Tagger> Session<'a, B, T> {
         let kept = store_image(&mut memory, image).err();
         Ok(Session {
             execution: Execution::new(image, input, memory, setup.budget),
-            image,
+            measured: measure(image),
             input,
-            setup,
+            setup: *setup,
             kept,
             ended: None,
         })
@@ -145,6 +155,32 @@ impl<'a, B: Bus, T: Tagger> Session<'a, B, T> {
         self.ended
     }
 
+    // How it ended, if a turn answered that.
+    pub(crate) fn ended(&self) -> Option<Ending>
+        ensures { result ≡ self.now.ended }
+    {
+        self.ended
+    }
+
+    // The stop that ended it, if its memory or want of memory did.
+    pub(crate) fn stop(&self) -> Option<SideStop>
+        ensures { (printed : List ℕ) → HoldsTaken self.now.execution.calls.taken printed →
+            result ≡ stop_at self.now.ended self.now.execution.retired
+            (more_by (length printed) 0) }
+    {
+        let stop = match self.ended? {
+            Ending::Tampered(place) => MemStop::Tampered(place),
+            Ending::Spent(page) => MemStop::Spent(page),
+            Ending::NoMemory => MemStop::NoMemory,
+            _ => return None,
+        };
+        Some(SideStop {
+            turn: self.execution.retired(),
+            printed: self.execution.printed(),
+            stop,
+        })
+    }
+
     // Goes on to the end, by turns that no caller sees.
     pub(crate) fn go_on<S: Sink>(&mut self, out: &mut S)
         requires { self.old.ended ≡ None }
@@ -171,8 +207,8 @@ impl<'a, B: Bus, T: Tagger> Session<'a, B, T> {
             self.entry →
             ComesTo terms printed (B.history bus) (B.history result.1) result.0 }
 
-        // Some accesses led from the bus that was given to the one handed back; their writes are the run's messages, one by
-        // one.
+        // Some accesses led from the bus that was given to the one handed back; their writes are the run's messages, but for the last
+        // one where memory ran out.
         ensures accesses { (bus : B) (tagger : T) (terms : Terms) (printed : List ℕ) →
             HasPrinted T.data_tag_of T.node_tag_of B.history B.moved bus tagger terms printed
             self.entry →
@@ -181,7 +217,7 @@ impl<'a, B: Bus, T: Tagger> Session<'a, B, T> {
     {
         let Session {
             execution,
-            image,
+            measured,
             input,
             setup,
             kept: _,
@@ -190,7 +226,7 @@ impl<'a, B: Bus, T: Tagger> Session<'a, B, T> {
         let ending = ended.unwrap();
         let retired = execution.retired();
         let (memory, calls) = execution.into_parts();
-        let report = signed_report(image, input, setup, calls.finish(), retired, ending);
+        let report = signed_report(measured, input, &setup, calls.finish(), retired, ending);
         close(memory, retired, ending, report)
     }
 }

@@ -1,4 +1,4 @@
-use Rattle.std.proofs.Common.{◌≡◌, refl, sym, ap, ◌∙◌, subst, arith}
+use Rattle.std.proofs.Common.{◌≡◌, ℕ, List, refl, sym, ap, ◌∙◌, subst, arith}
 use Rattle.rv32_run.proofs.Progress.{goes_not}
 use Rattle.rv32_run.proofs.Runs.{opening_begins}
 use Rattle.rv32_run.proofs.Trails.{touched_front}
@@ -22,7 +22,7 @@ store_image-requires-clause-zeros g c = λ quiet.
     new.unmade new.geometry_is c.requires.size c.in_ok-memory.ensures.none_held
 
 -- its program was stored, as far as its memory went
-stored : (g : Over) (c : goal.After-new g) → HasStored g.T.Tagger.data_tag_of g.T.Tagger.node_tag_of g.B.Bus.history g.B.Bus.moved c.args.bus c.args.tagger
+stored : (g : Over) (c : goal.After-result-1 g) → HasStored g.T.Tagger.data_tag_of g.T.Tagger.node_tag_of g.B.Bus.history g.B.Bus.moved c.args.bus c.args.tagger
     (run_terms c.args.image.now c.args.input.now c.args.setup.now (engine_tag (g.T.Tagger.data_tag_of c.args.tagger) (g.T.Tagger.node_tag_of c.args.tagger) c.args.setup.now.geometry)) c.new.result.memory
 stored g c =
     let booted = c.in_ok-memory.ensures in
@@ -59,7 +59,11 @@ returns-clause-begun g c =
     ap (λ memory. stopped memory) began.memory
     ∙ stopped_as c.store_image.result (stopped c.store_image.new.ram) storing.goes_on storing.stops ∙ sym c.err-kept.ensures.value in
     record {
+      image = image;
+      input = c.args.input.now;
+      setup = c.args.setup.now;
       terms_are = refl;
+      report_is = ap (λ (bytes : List ℕ). record terms.report { measurement = bytes }) (sym c.measure.ensures);
       honest = c.requires.no_lie;
       taken = began.nothing_taken;
       came_to = came_to_begin g.T.Tagger.data_tag_of g.T.Tagger.node_tag_of g.B.Bus.history g.B.Bus.moved c.args.bus c.args.tagger terms execution c.err-kept.result (stored g c) kept began.retired (λ going. record {

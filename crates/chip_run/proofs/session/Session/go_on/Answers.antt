@@ -12,8 +12,8 @@ returns-in-Some-clause-turns g c =
     let ending = c.ending_of.result in
     let new : inside.ended ≡ None = ap (λ (now : SessionView g.row.B.Denot g.row.T.Denot). now.ended) c.self.view_is ∙ c.requires in
     subst (λ (now : SessionView g.row.B.Denot g.row.T.Denot). PrintsOn d n g.B.Bus.history g.B.Bus.moved (Some ending) out out now
-    (record { execution = inside.execution; image = inside.image.now; input = inside.input.now; setup = inside.setup.now; kept = inside.kept; ended = Some ending })) c.self.view_is
-    (turns_stopped d n g.B.Bus.history g.B.Bus.moved inside.image.now inside.input.now inside.setup.now out inside.execution inside.kept inside.ended c.in-Some.stop ending
+    (record { execution = inside.execution; report = record { measurement = inside.measured; input = inside.input.now; nonce = inside.setup.nonce; layout = inside.setup.geometry.layout; report_key = inside.setup.keys.report_key }; kept = inside.kept; ended = Some ending })) c.self.view_is
+    (turns_stopped d n g.B.Bus.history g.B.Bus.moved (record { measurement = inside.measured; input = inside.input.now; nonce = inside.setup.nonce; layout = inside.setup.geometry.layout; report_key = inside.setup.keys.report_key }) out inside.execution inside.kept inside.ended c.in-Some.stop ending
     c.in-Some.is new c.ending_of.ensures)
 
 pub returns-clause-turns : goal.returns-clause-turns
@@ -24,7 +24,7 @@ returns-clause-turns g c =
     let n = g.T.Tagger.node_tag_of in
     let new : inside.ended ≡ None = ap (λ (now : SessionView g.row.B.Denot g.row.T.Denot). now.ended) c.self.view_is ∙ c.requires in
     subst (λ (now : SessionView g.row.B.Denot g.row.T.Denot). PrintsOn d n g.B.Bus.history g.B.Bus.moved (Some finish.result) (g.S.Sink.state c.args.out.now) (g.S.Sink.state finish.new.out) now
-    (record { execution = finish.new.self; image = inside.image.now; input = inside.input.now; setup = inside.setup.now; kept = inside.kept; ended = Some finish.result })) c.self.view_is
-    (turns_or_ends d n g.B.Bus.history g.B.Bus.moved inside.image.now inside.input.now inside.setup.now g.met.B.Bus.unmoved g.met.B.Bus.moved_on
+    (record { execution = finish.new.self; report = record { measurement = inside.measured; input = inside.input.now; nonce = inside.setup.nonce; layout = inside.setup.geometry.layout; report_key = inside.setup.keys.report_key }; kept = inside.kept; ended = Some finish.result })) c.self.view_is
+    (turns_or_ends d n g.B.Bus.history g.B.Bus.moved (record { measurement = inside.measured; input = inside.input.now; nonce = inside.setup.nonce; layout = inside.setup.geometry.layout; report_key = inside.setup.keys.report_key }) g.met.B.Bus.unmoved g.met.B.Bus.moved_on
     (g.S.Sink.state c.args.out.now) (g.S.Sink.state finish.new.out) inside.execution finish.new.self inside.kept inside.ended (Some finish.result) c.in_default.is new
     (λ none. absurd (cc)) finish.ensures.ended)

@@ -16,8 +16,8 @@ returns-in-Some-kept-clause-turns g c =
     let out = g.S.Sink.state c.args.out.now in
     let ending = c.ending_of-ending.result in
     subst (λ (now : SessionView g.row.B.Denot g.row.T.Denot). PrintsOn d n g.B.Bus.history g.B.Bus.moved (Some ending) out out now
-    (record { execution = inside.execution; image = inside.image.now; input = inside.input.now; setup = inside.setup.now; kept = inside.kept; ended = Some ending })) c.self.view_is
-    (turns_stopped d n g.B.Bus.history g.B.Bus.moved inside.image.now inside.input.now inside.setup.now out inside.execution inside.kept inside.ended c.in-Some-kept.stop ending
+    (record { execution = inside.execution; report = record { measurement = inside.measured; input = inside.input.now; nonce = inside.setup.nonce; layout = inside.setup.geometry.layout; report_key = inside.setup.keys.report_key }; kept = inside.kept; ended = Some ending })) c.self.view_is
+    (turns_stopped d n g.B.Bus.history g.B.Bus.moved (record { measurement = inside.measured; input = inside.input.now; nonce = inside.setup.nonce; layout = inside.setup.geometry.layout; report_key = inside.setup.keys.report_key }) out inside.execution inside.kept inside.ended c.in-Some-kept.stop ending
     c.in-Some-kept.is c.in_default.is c.ending_of-ending.ensures)
 
 pub returns-clause-turns : goal.returns-clause-turns
@@ -27,7 +27,7 @@ returns-clause-turns g c =
     let d = g.T.Tagger.data_tag_of in
     let n = g.T.Tagger.node_tag_of in
     subst (λ (now : SessionView g.row.B.Denot g.row.T.Denot). PrintsOn d n g.B.Bus.history g.B.Bus.moved turn.result (g.S.Sink.state c.args.out.now) (g.S.Sink.state turn.new.out) now
-    (record { execution = turn.new.self; image = inside.image.now; input = inside.input.now; setup = inside.setup.now; kept = inside.kept; ended = turn.result })) c.self.view_is
-    (turns_or_ends d n g.B.Bus.history g.B.Bus.moved inside.image.now inside.input.now inside.setup.now g.met.B.Bus.unmoved g.met.B.Bus.moved_on
+    (record { execution = turn.new.self; report = record { measurement = inside.measured; input = inside.input.now; nonce = inside.setup.nonce; layout = inside.setup.geometry.layout; report_key = inside.setup.keys.report_key }; kept = inside.kept; ended = turn.result })) c.self.view_is
+    (turns_or_ends d n g.B.Bus.history g.B.Bus.moved (record { measurement = inside.measured; input = inside.input.now; nonce = inside.setup.nonce; layout = inside.setup.geometry.layout; report_key = inside.setup.keys.report_key }) g.met.B.Bus.unmoved g.met.B.Bus.moved_on
     (g.S.Sink.state c.args.out.now) (g.S.Sink.state turn.new.out) inside.execution turn.new.self inside.kept inside.ended turn.result c.in_default-kept.is c.in_default.is
     turn.ensures.goes turn.ensures.ends)
