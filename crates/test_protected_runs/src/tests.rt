@@ -8,6 +8,7 @@ ghost use Rattle.sec_base.specs.Segment.{IsSegment};
 
 mod evictions;
 mod outcomes;
+mod pairs;
 mod programs;
 mod replay_bus;
 mod reports;
