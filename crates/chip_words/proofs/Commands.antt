@@ -15,9 +15,9 @@ use Rattle.clap.specs.Faults.{check_fault, defaults_fault, entered_fault, level_
 use Rattle.clap.specs.declared.builder.value_parser.ValueParser.TheVariants.{Unsigned}
 use Rattle.clap.proofs.ValueTestLemmas.{accepts-Accepts}
 use Rattle.std.proofs.lemmas.Slice.Eq.{bytes_eq-Decides}
-use Rattle.chip_words.specs.App.{chip_app, file_rule, key_rule, layout_rule, levels_rule, nonce_rule, number_rule, page_limit_rule, steps_rule, tags_rule, trace_rule}
+use Rattle.chip_words.specs.App.{chip_app, file_rule, first_file_rule, key_rule, layout_rule, levels_rule, nonce_rule, number_rule, page_limit_rule, second_file_rule, second_key_rule, steps_rule, tags_rule, trace_rule}
 use Rattle.chip_words.specs.Request.{number_of, numeral_value, value_of}
-use Rattle.chip_words.specs.Commands.{HasExecution, HasItsValues, HasJudgement, HasNumber, HasProgram, HasProtectedRun, HasReport, HasValue, HasWorkload, IfCommand, IsWithin}
+use Rattle.chip_words.specs.Commands.{HasExecution, HasItsValues, HasJudgement, HasNumber, HasPair, HasProgram, HasProtectedRun, HasReport, HasValue, HasWorkload, IfCommand, IsWithin}
 use Rattle.chip_words.proofs.Walks.{IsNoHelp, both_empty}
 use Rattle.chip_words.proofs.Fits.{AllFit, HasSome, IsIn, Owns, defaults_have, finished_fits, first_passes, row_found, walk_fits}
 
@@ -151,6 +151,15 @@ number_built = with_index 1 (filled number_rule)
 abbrev trace_built : Rule
 trace_built = with_index 2 (filled trace_rule)
 
+abbrev first_file_built : Rule
+first_file_built = with_index 1 (filled first_file_rule)
+
+abbrev second_file_built : Rule
+second_file_built = with_index 2 (filled second_file_rule)
+
+abbrev second_key_built : Rule
+second_key_built = filled second_key_rule
+
 -- a command that takes a file, a layout and levels, whatever else it takes
 program_there : (s : Shape) (words : List Text) → IsFaultless s words → s.subcommand_negates_reqs ≡ false
     → IsIn file_built s.rules → arg_by_id s.rules (codes "file") ≡ Some file_built
@@ -202,6 +211,10 @@ bench_built = slice_index_or (built chip_app).subs 6 help_shape
 abbrev pub judge_built : Shape
 judge_built = slice_index_or (built chip_app).subs 8 help_shape
 
+-- `pair`
+abbrev pub pair_built : Shape
+pair_built = slice_index_or (built chip_app).subs 9 help_shape
+
 protected_owns : (name : Text) → Owns (protected_built name).rules (protected_built name).rules
 protected_owns name = ((refl, λ takes. refl), ((refl, λ takes. absurd cc), ((refl, λ takes. refl), ((refl, λ takes. refl), ((refl, λ takes. refl), ((refl, λ takes. refl), ((refl, λ takes. refl), ((refl, λ takes. refl), ((refl, λ takes. refl), ((refl, λ takes. refl), ((refl, λ takes. refl), ((refl, λ takes. absurd cc), tt))))))))))))
 
@@ -210,6 +223,9 @@ plain_owns = ((refl, λ takes. refl), ((refl, λ takes. absurd cc), ((refl, λ t
 
 judge_owns : Owns judge_built.rules judge_built.rules
 judge_owns = ((refl, λ takes. refl), ((refl, λ takes. absurd cc), ((refl, λ takes. refl), ((refl, λ takes. refl), ((refl, λ takes. refl), ((refl, λ takes. refl), ((refl, λ takes. refl), ((refl, λ takes. absurd cc), tt))))))))
+
+pair_owns : Owns pair_built.rules pair_built.rules
+pair_owns = ((refl, λ takes. refl), ((refl, λ takes. refl), ((refl, λ takes. refl), ((refl, λ takes. refl), ((refl, λ takes. refl), ((refl, λ takes. refl), ((refl, λ takes. refl), ((refl, λ takes. absurd cc), tt))))))))
 
 asm_owns : Owns asm_built.rules asm_built.rules
 asm_owns = ((refl, λ takes. refl), ((refl, λ takes. refl), ((refl, λ takes. refl), ((refl, λ takes. absurd cc), tt))))
@@ -259,6 +275,21 @@ judge_has words e =
       trace = value_there (codes "trace") trace.0 (rows_after s.rules [] words) trace.1;
     }
 
+pair_has : (words : List Text) → level_fault pair_built [] nothing_held words false [] ≡ [] → HasPair (rows_after pair_built.rules [] words)
+pair_has words e =
+    let s = pair_built in
+    let clean = faultless s words pair_owns e in
+    let first_file = required_passed s words first_file_built clean refl (inl refl) refl refl refl in
+    let second_file = required_passed s words second_file_built clean refl (inr (inl refl)) refl refl refl in
+    let first_key = default_passed s words key_built clean (inr (inr (inr (inr (inr (inl refl)))))) tt refl refl in
+    let second_key = default_passed s words second_key_built clean (inr (inr (inr (inr (inr (inr (inl refl))))))) tt refl refl in
+    record {
+      first_file = value_there (codes "file1") first_file.0 (rows_after s.rules [] words) first_file.1;
+      second_file = value_there (codes "file2") second_file.0 (rows_after s.rules [] words) second_file.1;
+      first_key = value_there (codes "key") first_key.0 (rows_after s.rules [] words) first_key.1;
+      second_key = value_there (codes "key2") second_key.0 (rows_after s.rules [] words) second_key.1;
+    }
+
 asm_has : (words : List Text) → level_fault asm_built [] nothing_held words false [] ≡ [] → HasProgram (rows_after asm_built.rules [] words)
 asm_has words e =
     program_there asm_built words (faultless asm_built words asm_owns e) refl (inl refl) refl (inr (inl refl)) refl refl
@@ -303,6 +334,7 @@ as_run words e = let h = protected_has (codes "run") words e in record {
   bench = λ is. absurd cc;
   trace = λ is. absurd cc;
   judge = λ is. absurd cc;
+  pair = λ is. absurd cc;
 }
 
 as_plain : (words : List Text) → level_fault plain_built [] nothing_held words false [] ≡ []
@@ -317,6 +349,7 @@ as_plain words e = let h = plain_has words e in record {
   bench = λ is. absurd cc;
   trace = λ is. absurd cc;
   judge = λ is. absurd cc;
+  pair = λ is. absurd cc;
 }
 
 as_assembly : (words : List Text) → level_fault asm_built [] nothing_held words false [] ≡ []
@@ -331,6 +364,7 @@ as_assembly words e = let h = asm_has words e in record {
   bench = λ is. absurd cc;
   trace = λ is. absurd cc;
   judge = λ is. absurd cc;
+  pair = λ is. absurd cc;
 }
 
 as_dis : (words : List Text) → level_fault (inspection_built (codes "dis")) [] nothing_held words false [] ≡ []
@@ -345,6 +379,7 @@ as_dis words e = let h = inspection_has (codes "dis") words e in record {
   bench = λ is. absurd cc;
   trace = λ is. absurd cc;
   judge = λ is. absurd cc;
+  pair = λ is. absurd cc;
 }
 
 as_measure : (words : List Text) → level_fault (inspection_built (codes "measure")) [] nothing_held words false [] ≡ []
@@ -359,6 +394,7 @@ as_measure words e = let h = inspection_has (codes "measure") words e in record 
   bench = λ is. absurd cc;
   trace = λ is. absurd cc;
   judge = λ is. absurd cc;
+  pair = λ is. absurd cc;
 }
 
 as_verification : (words : List Text) → level_fault verify_built [] nothing_held words false [] ≡ []
@@ -373,6 +409,7 @@ as_verification words e = let h = verify_has words e in record {
   bench = λ is. absurd cc;
   trace = λ is. absurd cc;
   judge = λ is. absurd cc;
+  pair = λ is. absurd cc;
 }
 
 as_bench : (words : List Text) → level_fault bench_built [] nothing_held words false [] ≡ []
@@ -387,6 +424,7 @@ as_bench words e = let h = bench_has words e in record {
   bench = λ is. h;
   trace = λ is. absurd cc;
   judge = λ is. absurd cc;
+  pair = λ is. absurd cc;
 }
 
 as_trace : (words : List Text) → level_fault (protected_built (codes "trace")) [] nothing_held words false [] ≡ []
@@ -401,6 +439,7 @@ as_trace words e = let h = protected_has (codes "trace") words e in record {
   bench = λ is. absurd cc;
   trace = λ is. h;
   judge = λ is. absurd cc;
+  pair = λ is. absurd cc;
 }
 
 as_judge : (words : List Text) → level_fault judge_built [] nothing_held words false [] ≡ []
@@ -415,15 +454,32 @@ as_judge words e = let h = judge_has words e in record {
   bench = λ is. absurd cc;
   trace = λ is. absurd cc;
   judge = λ is. h;
+  pair = λ is. absurd cc;
 }
 
--- the command that was met is one of the nine, and has its values
+as_pair : (words : List Text) → level_fault pair_built [] nothing_held words false [] ≡ []
+    → HasItsValues (codes "pair") (rows_after pair_built.rules [] words)
+as_pair words e = let h = pair_has words e in record {
+  run = λ is. absurd cc;
+  plain = λ is. absurd cc;
+  asm = λ is. absurd cc;
+  dis = λ is. absurd cc;
+  measure = λ is. absurd cc;
+  verify = λ is. absurd cc;
+  bench = λ is. absurd cc;
+  trace = λ is. absurd cc;
+  judge = λ is. absurd cc;
+  pair = λ is. h;
+}
+
+-- the command that was met is one of the ten, and has its values
 pub command_has : (stop : Option (Text × List Text)) → IsNoHelp stop → entered_fault (built chip_app) stop ≡ [] → IfCommand (entered (built chip_app) stop)
 command_has None free e = tt
 command_has (Some p) free e =
     go (bytes_eq (codes "run") p.0) refl (bytes_eq (codes "plain") p.0) refl (bytes_eq (codes "asm") p.0) refl (bytes_eq (codes "dis") p.0) refl
     (bytes_eq (codes "measure") p.0) refl (bytes_eq (codes "verify") p.0) refl (bytes_eq (codes "bench") p.0) refl
-    (bytes_eq (codes "trace") p.0) refl (bytes_eq (codes "judge") p.0) refl (bytes_eq (codes "help") p.0) refl
+    (bytes_eq (codes "trace") p.0) refl (bytes_eq (codes "judge") p.0) refl (bytes_eq (codes "pair") p.0) refl
+    (bytes_eq (codes "help") p.0) refl
   where
     help_is : bytes_eq (codes "help") p.0 ≡ true → bytes_eq p.0 (codes "help") ≡ true
     help_is is = (bytes_eq-Decides p.0 (codes "help")).1 (sym ((bytes_eq-Decides (codes "help") p.0).0 is))
@@ -432,18 +488,21 @@ command_has (Some p) free e =
         → (c : Bool) → bytes_eq (codes "asm") p.0 ≡ c → (d : Bool) → bytes_eq (codes "dis") p.0 ≡ d
         → (m : Bool) → bytes_eq (codes "measure") p.0 ≡ m → (k : Bool) → bytes_eq (codes "verify") p.0 ≡ k
         → (n : Bool) → bytes_eq (codes "bench") p.0 ≡ n → (i : Bool) → bytes_eq (codes "trace") p.0 ≡ i
-        → (j : Bool) → bytes_eq (codes "judge") p.0 ≡ j → (h : Bool) → bytes_eq (codes "help") p.0 ≡ h
+        → (j : Bool) → bytes_eq (codes "judge") p.0 ≡ j → (l : Bool) → bytes_eq (codes "pair") p.0 ≡ l
+        → (h : Bool) → bytes_eq (codes "help") p.0 ≡ h
         → IfCommand (entered (built chip_app) (Some p))
-    go true x b y c z d u m v k q n t i r j o h w = rw x (as_run p.1 (rw x at e))
-    go false x true y c z d u m v k q n t i r j o h w = rw (x, y) (as_plain p.1 (rw (x, y) at e))
-    go false x false y true z d u m v k q n t i r j o h w = rw (x, y, z) (as_assembly p.1 (rw (x, y, z) at e))
-    go false x false y false z true u m v k q n t i r j o h w = rw (x, y, z, u) (as_dis p.1 (rw (x, y, z, u) at e))
-    go false x false y false z false u true v k q n t i r j o h w = rw (x, y, z, u, v) (as_measure p.1 (rw (x, y, z, u, v) at e))
-    go false x false y false z false u false v true q n t i r j o h w = rw (x, y, z, u, v, q) (as_verification p.1 (rw (x, y, z, u, v, q) at e))
-    go false x false y false z false u false v false q true t i r j o h w = rw (x, y, z, u, v, q, t) (as_bench p.1 (rw (x, y, z, u, v, q, t) at e))
-    go false x false y false z false u false v false q false t true r j o h w =
+    go true x b y c z d u m v k q n t i r j o l g h w = rw x (as_run p.1 (rw x at e))
+    go false x true y c z d u m v k q n t i r j o l g h w = rw (x, y) (as_plain p.1 (rw (x, y) at e))
+    go false x false y true z d u m v k q n t i r j o l g h w = rw (x, y, z) (as_assembly p.1 (rw (x, y, z) at e))
+    go false x false y false z true u m v k q n t i r j o l g h w = rw (x, y, z, u) (as_dis p.1 (rw (x, y, z, u) at e))
+    go false x false y false z false u true v k q n t i r j o l g h w = rw (x, y, z, u, v) (as_measure p.1 (rw (x, y, z, u, v) at e))
+    go false x false y false z false u false v true q n t i r j o l g h w = rw (x, y, z, u, v, q) (as_verification p.1 (rw (x, y, z, u, v, q) at e))
+    go false x false y false z false u false v false q true t i r j o l g h w = rw (x, y, z, u, v, q, t) (as_bench p.1 (rw (x, y, z, u, v, q, t) at e))
+    go false x false y false z false u false v false q false t true r j o l g h w =
         rw (x, y, z, u, v, q, t, r) (as_trace p.1 (rw (x, y, z, u, v, q, t, r) at e))
-    go false x false y false z false u false v false q false t false r true o h w =
+    go false x false y false z false u false v false q false t false r true o l g h w =
         rw (x, y, z, u, v, q, t, r, o) (as_judge p.1 (rw (x, y, z, u, v, q, t, r, o) at e))
-    go false x false y false z false u false v false q false t false r false o true w = absurd (let bad = rw (help_is w) at free in cc)
-    go false x false y false z false u false v false q false t false r false o false w = rw (x, y, z, u, v, q, t, r, o, w) tt
+    go false x false y false z false u false v false q false t false r false o true g h w =
+        rw (x, y, z, u, v, q, t, r, o, g) (as_pair p.1 (rw (x, y, z, u, v, q, t, r, o, g) at e))
+    go false x false y false z false u false v false q false t false r false o false g true w = absurd (let bad = rw (help_is w) at free in cc)
+    go false x false y false z false u false v false q false t false r false o false g false w = rw (x, y, z, u, v, q, t, r, o, g, w) tt

@@ -14,13 +14,13 @@ use Rattle.clap.specs.declared.parser.matches.ArgMatches.{ArgMatches}
 use Rattle.clap.proofs.OnLiterals.{clap_on_literals}
 use Rattle.clap.proofs.SimpleLemmas.{is_nil}
 use Rattle.chip_words.specs.App.{chip_app}
-use Rattle.chip_words.specs.Request.{Asked, WordsFault, asked_in, asked_to_assemble, asked_to_disassemble, asked_to_judge, asked_to_measure, asked_to_run, asked_to_run_plain, asked_to_trace, asked_to_verify, by_values, is_taken, not_taken, request_of}
+use Rattle.chip_words.specs.Request.{Asked, WordsFault, asked_in, asked_to_assemble, asked_to_disassemble, asked_to_judge, asked_to_measure, asked_to_pair, asked_to_run, asked_to_run_plain, asked_to_trace, asked_to_verify, by_values, is_taken, not_taken, request_of}
 use Rattle.chip_words.specs.Words.{Explains, IfUsage}
 use Rattle.chip_words.specs.declared.fault.ValueFault.{ValueFault}
 use Rattle.chip_words.specs.declared.fault.WordsError.{WordsError}
 use Rattle.chip_words.specs.declared.fault.WordsError.TheVariants.{Usage, WrongValue, NoMemory}
 use Rattle.chip_words.specs.Commands.{IfCommand}
-use Rattle.chip_words.proofs.Commands.{asm_built, command_has, inspection_built, judge_built, plain_built, protected_built, verify_built}
+use Rattle.chip_words.proofs.Commands.{asm_built, command_has, inspection_built, judge_built, pair_built, plain_built, protected_built, verify_built}
 use Rattle.chip_words.proofs.Walks.{IsNoHelp, both_empty, walk_keeps}
 
 -- ---- a level without a fault
@@ -57,14 +57,15 @@ by_values_is_taken : (answer : Result Asked ValueFault) → is_taken (by_values 
 by_values_is_taken (Ok asked) = refl
 by_values_is_taken (Err fault) = refl
 
--- one of the nine
+-- one of the ten
 named : (stop : Option (Text × List Text)) → IsNoHelp stop → is_some (entered (built chip_app) stop) ≡ true
     → is_taken (asked_in (entered (built chip_app) stop)) ≡ true
 named None free some = absurd cc
 named (Some p) free some =
     go (bytes_eq (codes "run") p.0) refl (bytes_eq (codes "plain") p.0) refl (bytes_eq (codes "asm") p.0) refl (bytes_eq (codes "dis") p.0) refl
     (bytes_eq (codes "measure") p.0) refl (bytes_eq (codes "verify") p.0) refl (bytes_eq (codes "bench") p.0) refl
-    (bytes_eq (codes "trace") p.0) refl (bytes_eq (codes "judge") p.0) refl (bytes_eq (codes "help") p.0) refl
+    (bytes_eq (codes "trace") p.0) refl (bytes_eq (codes "judge") p.0) refl (bytes_eq (codes "pair") p.0) refl
+    (bytes_eq (codes "help") p.0) refl
   where
     help_is : bytes_eq (codes "help") p.0 ≡ true → bytes_eq p.0 (codes "help") ≡ true
     help_is e = (bytes_eq-Decides p.0 (codes "help")).1 (sym ((bytes_eq-Decides (codes "help") p.0).0 e))
@@ -73,24 +74,28 @@ named (Some p) free some =
         → (c : Bool) → bytes_eq (codes "asm") p.0 ≡ c → (d : Bool) → bytes_eq (codes "dis") p.0 ≡ d
         → (m : Bool) → bytes_eq (codes "measure") p.0 ≡ m → (k : Bool) → bytes_eq (codes "verify") p.0 ≡ k
         → (n : Bool) → bytes_eq (codes "bench") p.0 ≡ n → (i : Bool) → bytes_eq (codes "trace") p.0 ≡ i
-        → (j : Bool) → bytes_eq (codes "judge") p.0 ≡ j → (h : Bool) → bytes_eq (codes "help") p.0 ≡ h
+        → (j : Bool) → bytes_eq (codes "judge") p.0 ≡ j → (l : Bool) → bytes_eq (codes "pair") p.0 ≡ l
+        → (h : Bool) → bytes_eq (codes "help") p.0 ≡ h
         → is_taken (asked_in (entered (built chip_app) (Some p))) ≡ true
-    go true x b y c z d u m v k q n t i r j o h w = rw x (by_values_is_taken (asked_to_run (rows_after (protected_built (codes "run")).rules [] p.1)))
-    go false x true y c z d u m v k q n t i r j o h w = rw (x, y) (by_values_is_taken (asked_to_run_plain (rows_after plain_built.rules [] p.1)))
-    go false x false y true z d u m v k q n t i r j o h w = rw (x, y, z) (by_values_is_taken (asked_to_assemble (rows_after asm_built.rules [] p.1)))
-    go false x false y false z true u m v k q n t i r j o h w =
+    go true x b y c z d u m v k q n t i r j o l g h w = rw x (by_values_is_taken (asked_to_run (rows_after (protected_built (codes "run")).rules [] p.1)))
+    go false x true y c z d u m v k q n t i r j o l g h w = rw (x, y) (by_values_is_taken (asked_to_run_plain (rows_after plain_built.rules [] p.1)))
+    go false x false y true z d u m v k q n t i r j o l g h w = rw (x, y, z) (by_values_is_taken (asked_to_assemble (rows_after asm_built.rules [] p.1)))
+    go false x false y false z true u m v k q n t i r j o l g h w =
         rw (x, y, z, u) (by_values_is_taken (asked_to_disassemble (rows_after (inspection_built (codes "dis")).rules [] p.1)))
-    go false x false y false z false u true v k q n t i r j o h w =
+    go false x false y false z false u true v k q n t i r j o l g h w =
         rw (x, y, z, u, v) (by_values_is_taken (asked_to_measure (rows_after (inspection_built (codes "measure")).rules [] p.1)))
-    go false x false y false z false u false v true q n t i r j o h w =
+    go false x false y false z false u false v true q n t i r j o l g h w =
         rw (x, y, z, u, v, q) (by_values_is_taken (asked_to_verify (rows_after verify_built.rules [] p.1)))
-    go false x false y false z false u false v false q true t i r j o h w = rw (x, y, z, u, v, q, t) refl
-    go false x false y false z false u false v false q false t true r j o h w =
+    go false x false y false z false u false v false q true t i r j o l g h w = rw (x, y, z, u, v, q, t) refl
+    go false x false y false z false u false v false q false t true r j o l g h w =
         rw (x, y, z, u, v, q, t, r) (by_values_is_taken (asked_to_trace (rows_after (protected_built (codes "trace")).rules [] p.1)))
-    go false x false y false z false u false v false q false t false r true o h w =
+    go false x false y false z false u false v false q false t false r true o l g h w =
         rw (x, y, z, u, v, q, t, r, o) (by_values_is_taken (asked_to_judge (rows_after judge_built.rules [] p.1)))
-    go false x false y false z false u false v false q false t false r false o true w = absurd (let bad = rw (help_is w) at free in cc)
-    go false x false y false z false u false v false q false t false r false o false w = absurd (let bad = rw (x, y, z, u, v, q, t, r, o, w) at some in cc)
+    go false x false y false z false u false v false q false t false r false o true g h w =
+        rw (x, y, z, u, v, q, t, r, o, g) (by_values_is_taken (asked_to_pair (rows_after pair_built.rules [] p.1)))
+    go false x false y false z false u false v false q false t false r false o false g true w = absurd (let bad = rw (help_is w) at free in cc)
+    go false x false y false z false u false v false q false t false r false o false g false w =
+        absurd (let bad = rw (x, y, z, u, v, q, t, r, o, g, w) at some in cc)
 
 -- words without a fault ask for something, and their command has its values
 asks : (words : List Text) → fault_of chip_app words ≡ []

@@ -92,6 +92,30 @@ number_rule = record (new_rule (codes "number")) {
 abbrev pub trace_rule : Rule
 trace_rule = record (new_rule (codes "trace")) { value_names = 1; required = true }
 
+-- `FILE1`, the first of two programs, which a command can't do without
+abbrev pub first_file_rule : Rule
+first_file_rule = record (new_rule (codes "file1")) { value_names = 1; required = true }
+
+-- `FILE2`, behind `FILE1`, which a command can't do without
+abbrev pub second_file_rule : Rule
+second_file_rule = record (new_rule (codes "file2")) { value_names = 1; required = true }
+
+-- `--order F`
+abbrev pub order_rule : Rule
+order_rule = record (new_rule (codes "order")) { long = Some (codes "order"); value_names = 1 }
+
+-- `--script2 F`
+abbrev pub second_script_rule : Rule
+second_script_rule = record (new_rule (codes "script2")) { long = Some (codes "script2"); value_names = 1 }
+
+-- `--key2 HEX`, and the bytes 20 to 3f where it is left out
+abbrev pub second_key_rule : Rule
+second_key_rule = record (new_rule (codes "key2")) {
+  long = Some (codes "key2");
+  value_names = 1;
+  defaults = codes "202122232425262728292a2b2c2d2e2f303132333435363738393a3b3c3d3e3f" ∷ [];
+}
+
 -- what `asm` takes
 abbrev pub assembly_rules : List Rule
 assembly_rules = file_rule ∷ layout_rule ∷ levels_rule ∷ []
@@ -113,6 +137,15 @@ protected_run_rules =
 abbrev pub judgement_rules : List Rule
 judgement_rules = execution_rules ++ trace_rule ∷ []
 
+-- the two programs of `pair`, and the order of their turns
+abbrev pub turns_rules : List Rule
+turns_rules = first_file_rule ∷ second_file_rule ∷ order_rule ∷ []
+
+-- what `pair` takes
+abbrev pub pair_rules : List Rule
+pair_rules =
+    turns_rules ++ script_rule ∷ second_script_rule ∷ key_rule ∷ second_key_rule ∷ []
+
 -- what `verify` takes
 abbrev pub verification_rules : List Rule
 verification_rules = file_rule ∷ key_rule ∷ []
@@ -125,8 +158,8 @@ bench_rules = number_rule ∷ []
 abbrev pub command : Text → List Rule → Shape
 command name rules = record (new_shape name) { rules = rules }
 
--- the program with the commands that have nothing to do with traces; it needs a command, and shows its help where it is
--- given nothing
+-- the program with the commands that have to do with one program, and nothing with traces; it needs a command, and shows
+-- its help where it is given nothing
 abbrev pub untraced_app : App
 untraced_app = record {
   top = record (new_shape (codes "chip")) {
@@ -150,5 +183,6 @@ chip_app = record untraced_app {
   subs = untraced_app.subs
       ++ command (codes "trace") protected_run_rules
       ∷ command (codes "judge") judgement_rules
+      ∷ command (codes "pair") pair_rules
       ∷ [];
 }

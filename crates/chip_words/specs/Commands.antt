@@ -44,6 +44,13 @@ pub record HasJudgement (values : List Row) : Type 0 where
   pub execution : HasExecution values
   pub trace : HasValue (codes "trace") values
 
+-- which two programs to run, and the keys of their devices
+pub record HasPair (values : List Row) : Type 0 where
+  pub first_file : HasValue (codes "file1") values
+  pub second_file : HasValue (codes "file2") values
+  pub first_key : HasValue (codes "key") values
+  pub second_key : HasValue (codes "key2") values
+
 -- which report, and under which key
 pub record HasReport (values : List Row) : Type 0 where
   pub file : HasValue (codes "file") values
@@ -65,6 +72,7 @@ pub record HasItsValues (name : Text) (values : List Row) : Type 0 where
   pub bench : bytes_eq name (codes "bench") ≡ true → HasWorkload values
   pub trace : bytes_eq name (codes "trace") ≡ true → HasProtectedRun values
   pub judge : bytes_eq name (codes "judge") ≡ true → HasJudgement values
+  pub pair : bytes_eq name (codes "pair") ≡ true → HasPair values
 
 -- a command, where there is one, has the values that it can't do without
 abbrev pub IfCommand : Option (Text × List Row) → Type 0

@@ -2,7 +2,7 @@
 use Rattle.std.specs.Prelude.{◌≡◌, ◌-◌, ◌^◌, ℕ, List, [], ◌∷◌, None, Ok, codes}
 use Rattle.clap.specs.Walk.{Text}
 use Rattle.sec_base.specs.Geometry.{one}
-use Rattle.chip_words.specs.Request.{ExecutionAsked, RunAsked, request_of, to_run}
+use Rattle.chip_words.specs.Request.{ExecutionAsked, RunAsked, SideAsked, request_of, to_run}
 use Rattle.chip_words.specs.declared.request.ProgramForm.TheVariants.{ElfFile}
 use Rattle.chip_words.specs.declared.request.Tags.TheVariants.{Hmac}
 use Rattle.chip_words.specs.declared.request.Terms.{Terms}
@@ -37,6 +37,13 @@ default_execution name = record {
 -- the run of a file on the terms by default, and without a script
 abbrev pub default_run : Text → RunAsked
 default_run name = record { execution = default_execution name; script = None; terms = default_terms }
+
+-- the run of one of two programs that share the core: one by default, but for its script and the key of its device
+abbrev pub side_run : SideAsked → RunAsked
+side_run side = record (default_run side.name) {
+  script = side.script;
+  terms = record default_terms { device_key = side.device_key };
+}
 
 -- `run` and the file's name, behind `--` since a name may begin with a hyphen, are read as the request for this run,
 -- whatever the program's own name.

@@ -14,7 +14,7 @@ use Rattle.sec_base.specs.declared.geometry.Layout.{Layout}
 use Rattle.sec_base.specs.declared.geometry.Layout.TheVariants.{One, Two}
 use Rattle.chip_words.specs.App.{chip_app}
 use Rattle.chip_words.specs.declared.fault.ValueFault.{ValueFault}
-use Rattle.chip_words.specs.declared.fault.ValueFault.TheVariants.{Levels as wrong_levels, Tags as wrong_tags, Key as wrong_key, Nonce as wrong_nonce}
+use Rattle.chip_words.specs.declared.fault.ValueFault.TheVariants.{Levels as wrong_levels, Tags as wrong_tags, Key as wrong_key, Keys as equal_keys, Nonce as wrong_nonce}
 use Rattle.chip_words.specs.declared.request.ProgramForm.{ProgramForm}
 use Rattle.chip_words.specs.declared.request.ProgramForm.TheVariants.{ElfFile, FlatFile, AssemblyText}
 use Rattle.chip_words.specs.declared.request.Tags.{Tags}
@@ -44,6 +44,19 @@ pub record JudgeAsked : Type 0 where
   pub execution : ExecutionAsked
   pub trace : Text
 
+-- one of two programs that are to share the core: its file, the script of the adversary outside its memory, and the key
+-- of its device
+pub record SideAsked : Type 0 where
+  pub name : Text
+  pub script : Option Text
+  pub device_key : List ℕ
+
+-- two programs that are to share the core, and the file of whose turn it is
+pub record PairAsked : Type 0 where
+  pub first : SideAsked
+  pub second : SideAsked
+  pub order : Option Text
+
 -- a report's file, and the key of the device that it is checked for
 pub record ReportAsked : Type 0 where
   pub name : Text
@@ -60,13 +73,14 @@ pub data Asked : Type 0 where
   to_bench : ℕ → Asked
   to_trace : RunAsked → Asked
   to_judge : JudgeAsked → Asked
+  to_pair : PairAsked → Asked
 
 -- why words ask for nothing: `clap` doesn't take them; or it does, and a value of theirs is refused
 pub data WordsFault : Type 0 where
   not_taken : WordsFault
   wrong_value : ValueFault → WordsFault
 
--- the file of a request's program, where it has one
+-- the file of a request's program, where it has one and no other
 abbrev pub asked_program : Asked → Option FileAsked
 asked_program (to_run run) = Some run.execution.file
 asked_program (to_run_plain execution) = Some execution.file
@@ -77,6 +91,7 @@ asked_program (to_verify report) = None
 asked_program (to_bench number) = None
 asked_program (to_trace run) = Some run.execution.file
 asked_program (to_judge judge) = Some judge.execution.file
+asked_program (to_pair pair) = None
 
 -- the number of a request's generated program, where it asks for one
 abbrev pub asked_number : Asked → Option ℕ
@@ -162,9 +177,13 @@ tags_of values = ok_or (tags_named (value_of (codes "tags") values)) wrong_tags
 abbrev pub bytes_in_hex : ℕ → Text → Option (List ℕ)
 bytes_in_hex count digits = result_ok (decode_sized digits count)
 
--- the device key, which is 64 hexadecimal digits, or the fault of another value
+-- the key that the argument of this name gives, which is 64 hexadecimal digits, or the fault of another value
+abbrev pub key_of : Text → List Row → Result (List ℕ) ValueFault
+key_of id values = ok_or (bytes_in_hex 32 (value_of id values)) wrong_key
+
+-- the device key
 abbrev pub device_key_of : List Row → Result (List ℕ) ValueFault
-device_key_of values = ok_or (bytes_in_hex 32 (value_of (codes "key") values)) wrong_key
+device_key_of values = key_of (codes "key") values
 
 -- the nonce, which is 32 hexadecimal digits, or the fault of another value
 abbrev pub nonce_of : List Row → Result (List ℕ) ValueFault
@@ -210,6 +229,20 @@ run_of values geometry terms =
 abbrev pub judgement_of : List Row → GeometryView → JudgeAsked
 judgement_of values geometry =
     record { execution = execution_of values geometry; trace = trace_name_of values }
+
+-- one of two programs that share the core: the file and the script that the arguments of these names give, under this
+-- key
+abbrev pub side_of : Text → Text → List Row → List ℕ → SideAsked
+side_of file script values key =
+    record { name = value_of file values; script = first_of script values; device_key = key }
+
+-- the two programs that these values name, each under its key, and the file of their turns
+abbrev pub pair_of : List Row → List ℕ → List ℕ → PairAsked
+pair_of values key key2 = record {
+  first = side_of (codes "file1") (codes "script") values key;
+  second = side_of (codes "file2") (codes "script2") values key2;
+  order = first_of (codes "order") values;
+}
 
 -- the report that these values name, and the device key to check it under
 abbrev pub report_of : List Row → List ℕ → ReportAsked
@@ -267,15 +300,31 @@ asked_to_judge values = do
   geometry ← geometry_of values
   Ok (to_judge (judgement_of values geometry))
 
+-- two programs, each under its key, where the keys differ
+abbrev pub pair_under : List Row → List ℕ → List ℕ → Result Asked ValueFault
+pair_under values key key2 =
+    if bytes_eq key key2 then Err equal_keys else Ok (to_pair (pair_of values key key2))
+
+-- `pair`
+abbrev pub asked_to_pair : List Row → Result Asked ValueFault
+asked_to_pair values = do
+  key ← key_of (codes "key") values
+  key2 ← key_of (codes "key2") values
+  pair_under values key key2
+
 -- the fault of a value is one of the words
 abbrev pub by_values : Result Asked ValueFault → Result Asked WordsFault
 by_values (Ok asked) = Ok asked
 by_values (Err fault) = Err (wrong_value fault)
 
--- what the command of this name asks for, with these values, where a trace is made or judged
+-- what the command of this name asks for, with these values, where it runs two programs
+abbrev pub asked_of_pair : Text → List Row → Result Asked WordsFault
+asked_of_pair name values = if bytes_eq name (codes "pair") then by_values (asked_to_pair values) else Err not_taken
+
+-- what the command of this name asks for, with these values, where a trace is made or judged, or two programs are run
 abbrev pub asked_of_trace : Text → List Row → Result Asked WordsFault
 asked_of_trace name values = if bytes_eq name (codes "trace") then by_values (asked_to_trace values)
-    else (if bytes_eq name (codes "judge") then by_values (asked_to_judge values) else Err not_taken)
+    else (if bytes_eq name (codes "judge") then by_values (asked_to_judge values) else asked_of_pair name values)
 
 -- what the command of this name asks for, with these values
 abbrev pub asked_by : Text → List Row → Result Asked WordsFault

@@ -88,6 +88,10 @@ record_text ending retired lies made evidence report = concat (ending_line endin
 abbrev pub plain_text : Ending → ℕ → List ℕ
 plain_text ending retired = concat (ending_line ending ∷ retired_line retired ∷ [])
 
+-- the line between the texts of two programs that shared the core
+abbrev pub second_line : List ℕ
+second_line = codes "second\n"
+
 -- ---- the run of a generated program
 
 -- the first line is its number
@@ -139,6 +143,10 @@ script_fault_line line code name =
 -- the refusal of a trace: the number and name of the broken rule
 abbrev pub trace_fault_line : ℕ → List ℕ → List ℕ
 trace_fault_line code name = codes "refused trace " ++ decimal code ++ codes " " ++ name ++ codes "\n"
+
+-- the refusal of an order of turns: the place of the first byte that names no program, counted from 0
+abbrev pub order_fault_line : ℕ → List ℕ
+order_fault_line place = codes "refused order " ++ decimal place ++ codes "\n"
 
 -- the refusal of a report: the number and name of the broken rule
 abbrev pub report_fault_line : ℕ → List ℕ → List ℕ

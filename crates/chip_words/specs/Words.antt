@@ -2,17 +2,19 @@
 use Rattle.std.specs.Prelude.{◌≡◌, List, map, option_map, Result, Ok, Err, ⊤}
 use Rattle.std.specs.Borrow.{Bor}
 use Rattle.clap.specs.Walk.{Text}
-use Rattle.chip_words.specs.Request.{Asked, ExecutionAsked, FileAsked, JudgeAsked, ReportAsked, RunAsked, WordsFault, to_assemble, to_bench, to_disassemble, to_judge, to_measure, to_run, to_run_plain, to_trace, to_verify, wrong_value, not_taken}
+use Rattle.chip_words.specs.Request.{Asked, ExecutionAsked, FileAsked, JudgeAsked, PairAsked, ReportAsked, RunAsked, SideAsked, WordsFault, to_assemble, to_bench, to_disassemble, to_judge, to_measure, to_pair, to_run, to_run_plain, to_trace, to_verify, wrong_value, not_taken}
 use Rattle.chip_words.specs.declared.fault.ValueFault.{ValueFault}
 use Rattle.chip_words.specs.declared.fault.WordsError.{WordsError}
 use Rattle.chip_words.specs.declared.fault.WordsError.TheVariants.{Usage, WrongValue, NoMemory}
 use Rattle.chip_words.specs.declared.request.Execution.{Execution}
 use Rattle.chip_words.specs.declared.request.JudgedTrace.{JudgedTrace}
+use Rattle.chip_words.specs.declared.request.PairRun.{PairRun}
 use Rattle.chip_words.specs.declared.request.ProgramFile.{ProgramFile}
 use Rattle.chip_words.specs.declared.request.ProtectedRun.{ProtectedRun}
 use Rattle.chip_words.specs.declared.request.ReportFile.{ReportFile}
 use Rattle.chip_words.specs.declared.request.Request.{Request}
-use Rattle.chip_words.specs.declared.request.Request.TheVariants.{Run, Plain, Asm, Dis, Measure, Verify, Bench, Trace, Judge}
+use Rattle.chip_words.specs.declared.request.Request.TheVariants.{Run, Plain, Asm, Dis, Measure, Verify, Bench, Trace, Judge, Pair}
+use Rattle.chip_words.specs.declared.request.SideRun.{SideRun}
 
 -- what the words point to
 abbrev pub texts : List (Bor Text) → List Text
@@ -43,6 +45,22 @@ abbrev pub judge_asked : JudgedTrace → JudgeAsked
 judge_asked judge =
     record { execution = execution_asked judge.execution; trace = judge.trace.now }
 
+-- one of two programs that share the core as the clauses see it: its file, its script and its device key
+abbrev pub side_asked : SideRun → SideAsked
+side_asked side = record {
+  name = side.name.now;
+  script = option_map (λ text. text.now) side.script;
+  device_key = side.device_key;
+}
+
+-- two programs that share the core as the clauses see them, and the file of their turns
+abbrev pub pair_asked : PairRun → PairAsked
+pair_asked pair = record {
+  first = side_asked pair.first;
+  second = side_asked pair.second;
+  order = option_map (λ text. text.now) pair.order;
+}
+
 -- the check of a report as the clauses see it: the file and the device key
 abbrev pub report_asked : ReportFile → ReportAsked
 report_asked report = record { name = report.name.now; device_key = report.device_key }
@@ -58,6 +76,7 @@ asked (Verify report) = to_verify (report_asked report)
 asked (Bench number) = to_bench number
 asked (Trace run) = to_trace (run_asked run)
 asked (Judge judge) = to_judge (judge_asked judge)
+asked (Pair pair) = to_pair (pair_asked pair)
 
 -- what the values of a command come to
 abbrev pub answer_asked : Result Request ValueFault → Result Asked WordsFault

@@ -3,11 +3,12 @@ ghost use Rattle.std.specs.Prelude.{◌≡◌, [], IfOk, false};
 ghost use Rattle.clap.specs.Walk.{rule_of};
 ghost use Rattle.clap.specs.Simple.{app_of, shape_of};
 ghost use Rattle.clap.specs.declared.builder.command.Command.TheViews.{out-Command as fields_of};
-ghost use Rattle.chip_words.specs.App.{assembly_rules, bench_rules, chip_app, command, execution_rules, inspection_rules, judgement_rules, protected_run_rules, untraced_app, verification_rules};
-ghost use Rattle.chip_words.specs.App.{file_rule, flat_rule, input_rule, key_rule, layout_rule, levels_rule, nonce_rule, number_rule, page_limit_rule, script_rule, steps_rule, tags_rule, trace_rule};
+ghost use Rattle.chip_words.specs.App.{assembly_rules, bench_rules, chip_app, command, execution_rules, inspection_rules, judgement_rules, pair_rules, protected_run_rules, turns_rules, untraced_app, verification_rules};
+ghost use Rattle.chip_words.specs.App.{file_rule, first_file_rule, flat_rule, input_rule, key_rule, layout_rule, levels_rule, nonce_rule, number_rule, order_rule, page_limit_rule, script_rule, second_file_rule, second_key_rule, second_script_rule, steps_rule, tags_rule, trace_rule};
 
 use crate::defaults::{
-    DEVICE_KEY_TEXT, LAYOUT_TEXT, NONCE_TEXT, PAGE_LIMIT_TEXT, STEPS_TEXT, TAGS_TEXT,
+    DEVICE_KEY_TEXT, LAYOUT_TEXT, NONCE_TEXT, PAGE_LIMIT_TEXT, SECOND_KEY_TEXT, STEPS_TEXT,
+    TAGS_TEXT,
 };
 use clap::{Arg, ArgAction, Command, value_parser};
 use std::alloc::{AllocError, Global};
@@ -19,11 +20,12 @@ pub(crate) fn app<'a>(alloc: Global) -> Result<Command<'a>, AllocError>
 {
     let app = untraced(alloc)?
         .subcommand(protected_run(alloc, "trace", TRACE_ABOUT)?)?
-        .subcommand(judgement(alloc, "judge", "Judges a trace")?)?;
+        .subcommand(judgement(alloc, "judge", "Judges a trace")?)?
+        .subcommand(pairing(alloc, "pair", "Runs two programs that share the core")?)?;
     Ok(app)
 }
 
-// The program with the commands that have nothing to do with traces.
+// The program with the commands that have to do with one program, and nothing with traces.
 fn untraced<'a>(alloc: Global) -> Result<Command<'a>, AllocError>
     ensures { IfOk result (λ app. app_of app ≡ untraced_app) }
 {
@@ -79,6 +81,32 @@ fn judgement<'a>(alloc: Global, name: &'a str, about: &'a str) -> Result<Command
     ensures local { IfOk result (λ c. (fields_of c).has_globals ≡ false) }
 {
     let command = execution(alloc, name, about)?.arg(trace(alloc))?;
+    Ok(command)
+}
+
+// A command that runs two programs.
+fn pairing<'a>(alloc: Global, name: &'a str, about: &'a str) -> Result<Command<'a>, AllocError>
+    ensures shape { IfOk result (λ c. shape_of c ≡ command name.entry.now pair_rules) }
+    ensures local { IfOk result (λ c. (fields_of c).has_globals ≡ false) }
+{
+    let command = turns(alloc, name, about)?
+        .arg(script(alloc))?
+        .arg(second_script(alloc))?
+        .arg(key(alloc))?
+        .arg(second_key(alloc))?;
+    Ok(command)
+}
+
+// A command that takes two programs, and the order of their turns.
+fn turns<'a>(alloc: Global, name: &'a str, about: &'a str) -> Result<Command<'a>, AllocError>
+    ensures shape { IfOk result (λ c. shape_of c ≡ command name.entry.now turns_rules) }
+    ensures local { IfOk result (λ c. (fields_of c).has_globals ≡ false) }
+{
+    let command = Command::new(alloc, name)
+        .about(about)
+        .arg(first_file(alloc))?
+        .arg(second_file(alloc))?
+        .arg(order(alloc))?;
     Ok(command)
 }
 
@@ -148,6 +176,35 @@ fn trace<'a>(alloc: Global) -> Arg<'a>
         .value_name("TRACE")
         .required(true)
         .help("The trace")
+}
+
+fn first_file<'a>(alloc: Global) -> Arg<'a>
+    ensures rule { rule_of result ≡ first_file_rule }
+    ensures local { result.global ≡ false }
+{
+    Arg::new(alloc, "file1")
+        .value_name("FILE1")
+        .required(true)
+        .help("The first program")
+}
+
+fn second_file<'a>(alloc: Global) -> Arg<'a>
+    ensures rule { rule_of result ≡ second_file_rule }
+    ensures local { result.global ≡ false }
+{
+    Arg::new(alloc, "file2")
+        .value_name("FILE2")
+        .required(true)
+        .help("The second program")
+}
+
+fn order<'a>(alloc: Global) -> Arg<'a>
+    ensures rule { rule_of result ≡ order_rule }
+    ensures local { result.global ≡ false }
+{
+    Arg::new(alloc, "order").long("order").value_name("F").help(
+        "Whose turn it is, over and over: a byte 00 or 01 for each; 00 01 by default",
+    )
 }
 
 fn number<'a>(alloc: Global) -> Arg<'a>
@@ -228,6 +285,16 @@ fn script<'a>(alloc: Global) -> Arg<'a>
         .help("What an adversary does to the memory outside the chip, nothing by default")
 }
 
+fn second_script<'a>(alloc: Global) -> Arg<'a>
+    ensures rule { rule_of result ≡ second_script_rule }
+    ensures local { result.global ≡ false }
+{
+    Arg::new(alloc, "script2")
+        .long("script2")
+        .value_name("F")
+        .help("What an adversary does to the second program's memory, nothing by default")
+}
+
 fn key<'a>(alloc: Global) -> Arg<'a>
     ensures rule { rule_of result ≡ key_rule }
     ensures local { result.global ≡ false }
@@ -237,6 +304,17 @@ fn key<'a>(alloc: Global) -> Arg<'a>
         .value_name("HEX")
         .default_value(DEVICE_KEY_TEXT)
         .help("The key of the device, of 64 digits")
+}
+
+fn second_key<'a>(alloc: Global) -> Arg<'a>
+    ensures rule { rule_of result ≡ second_key_rule }
+    ensures local { result.global ≡ false }
+{
+    Arg::new(alloc, "key2")
+        .long("key2")
+        .value_name("HEX")
+        .default_value(SECOND_KEY_TEXT)
+        .help("The key of the second program's device, of 64 digits")
 }
 
 fn nonce<'a>(alloc: Global) -> Arg<'a>

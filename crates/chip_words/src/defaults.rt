@@ -3,9 +3,9 @@ ghost use Rattle.std.specs.Prelude.{◌≡◌};
 ghost use Rattle.chip_words.specs.Defaults as spec;
 ghost use Rattle.chip_words.specs.Defaults.{IsReadByDefault};
 ghost use Rattle.chip_words.specs.Request.{levels_by_default};
-ghost use Rattle.chip_words.specs.Words.{run_asked};
+ghost use Rattle.chip_words.specs.Words.{run_asked, side_asked};
 
-use crate::request::{Execution, ProgramFile, ProgramForm, ProtectedRun, Tags, Terms};
+use crate::request::{Execution, ProgramFile, ProgramForm, ProtectedRun, SideRun, Tags, Terms};
 use sec_base::{Geometry, Layout};
 
 pub(crate) const LAYOUT_TEXT: &str = "1";
@@ -23,6 +23,9 @@ const DEVICE_KEY: [u8; 32] = [
     0, 1, 2, 3, 4, 5, 6, 7, 8, 9, 10, 11, 12, 13, 14, 15, 16, 17, 18, 19, 20, 21, 22, 23, 24, 25,
     26, 27, 28, 29, 30, 31,
 ];
+
+pub(crate) const SECOND_KEY_TEXT: &str =
+    "202122232425262728292a2b2c2d2e2f303132333435363738393a3b3c3d3e3f";
 
 pub(crate) const NONCE_TEXT: &str = "00000000000000000000000000000000";
 
@@ -55,6 +58,23 @@ pub fn default_run<'a>(name: &'a str) -> ProtectedRun<'a>
         execution,
         script: None,
         terms: default_terms(),
+    }
+}
+
+/// The run of one of two programs that share the core, as it is alone: one where no option is named, but for its script and
+/// the key of its device.
+pub fn side_run<'a>(side: &SideRun<'a>) -> ProtectedRun<'a>
+    ensures settings { run_asked result ≡ spec.side_run (side_asked side.now) }
+{
+    let run = default_run(side.name);
+    let device_key = side.device_key;
+    ProtectedRun {
+        script: side.script,
+        terms: Terms {
+            device_key,
+            ..run.terms
+        },
+        ..run
     }
 }
 

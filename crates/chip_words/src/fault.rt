@@ -7,7 +7,7 @@ use std::alloc::AllocError;
 use std::fmt;
 use thiserror::Error;
 
-/// A value that is refused. Shown as the name of its option.
+/// A value that is refused. Shown as the name of its option, and two keys that are the same as `keys`.
 #[derive(Clone, Copy, Debug, PartialEq, Eq)]
 pub enum ValueFault {
     /// The memory's layout has no trees of so many levels.
@@ -18,10 +18,12 @@ pub enum ValueFault {
     Key,
     /// A nonce isn't 32 digits.
     Nonce,
+    /// The keys of two devices are the same.
+    Keys,
 }
 
 impl ValueFault {
-    /// The name of the option, without its dashes.
+    /// The name of the option, without its dashes; of two keys that are the same `keys`.
     pub fn name(self) -> &'static str
         ensures { result.now ≡ value_fault_name self }
     {
@@ -30,6 +32,7 @@ impl ValueFault {
             ValueFault::Tags => "tags",
             ValueFault::Key => "key",
             ValueFault::Nonce => "nonce",
+            ValueFault::Keys => "keys",
         }
     }
 }

@@ -25,18 +25,19 @@ mod verdict_lines;
 
 use clap::Error;
 use clap::error::ErrorKind;
-pub use defaults::default_run;
+pub use defaults::{default_run, side_run};
 pub use fault::{ValueFault, WordsError};
 pub use lines::write_line;
-pub use note::{RunNote, tell_plain, tell_run};
+pub use note::{RunNote, second_line, tell_plain, tell_run};
 pub use refusal_lines::{
-    asm_fault_line, elf_fault_line, long_file_line, read_fault_line, report_fault_line,
-    script_fault_line, tag_differs_line, tell_usage, trace_fault_line, value_fault_line,
+    asm_fault_line, elf_fault_line, long_file_line, order_fault_line, read_fault_line,
+    report_fault_line, script_fault_line, tag_differs_line, tell_usage, trace_fault_line,
+    value_fault_line,
 };
 pub use report_fields::write_fields;
 pub use request::{
-    Execution, JudgedTrace, ProgramFile, ProgramForm, ProtectedRun, ReportFile, Request, Tags,
-    Terms,
+    Execution, JudgedTrace, PairRun, ProgramFile, ProgramForm, ProtectedRun, ReportFile, Request,
+    SideRun, Tags, Terms,
 };
 use std::alloc::Global;
 pub use summary::write_summary;

@@ -115,6 +115,13 @@ fn tell_report<N: Sink>(
     }
 }
 
+/// The line between the texts of two programs that shared the core.
+pub fn second_line() -> &'static str
+    ensures { result.now ≡ spec.second_line }
+{
+    "second\n"
+}
+
 fn lies_line(alloc: Global, lies: u64) -> Result<String, AllocError>
     ensures { IfOk result (λ line. string_bytes line ≡ spec.lies_line lies) }
 {

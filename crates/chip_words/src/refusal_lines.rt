@@ -80,6 +80,13 @@ pub fn trace_fault_line(alloc: Global, code: u8, name: &str) -> Result<String, A
     format!(in alloc; "refused trace {code} {name}\n")
 }
 
+/// The line of a file that is no order of turns, with the place of the first byte that names no program.
+pub fn order_fault_line(alloc: Global, place: usize) -> Result<String, AllocError>
+    ensures { IfOk result (λ line. string_bytes line ≡ spec.order_fault_line place) }
+{
+    format!(in alloc; "refused order {place}\n")
+}
+
 /// The line of a text that has no form of a report.
 pub fn report_fault_line(alloc: Global, code: u8, name: &str) -> Result<String, AllocError>
     ensures { IfOk result (λ line. string_bytes line ≡ spec.report_fault_line code name.now) }

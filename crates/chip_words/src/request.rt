@@ -22,6 +22,8 @@ pub enum Request<'a> {
     Trace(ProtectedRun<'a>),
     /// To judge a trace.
     Judge(JudgedTrace<'a>),
+    /// To run two programs that share the core.
+    Pair(PairRun<'a>),
 }
 
 /// What is to be run on protected memory, and on what terms.
@@ -42,6 +44,28 @@ pub struct JudgedTrace<'a> {
     pub execution: Execution<'a>,
     /// The trace's file.
     pub trace: &'a str,
+}
+
+/// Two programs that are to share the core.
+#[derive(Clone, Copy, Debug, PartialEq, Eq)]
+pub struct PairRun<'a> {
+    /// The first program.
+    pub first: SideRun<'a>,
+    /// The second program.
+    pub second: SideRun<'a>,
+    /// The file of whose turn it is, where there is one.
+    pub order: Option<&'a str>,
+}
+
+/// One of two programs that are to share the core, and what is its own.
+#[derive(Clone, Copy, Debug, PartialEq, Eq)]
+pub struct SideRun<'a> {
+    /// The program's file.
+    pub name: &'a str,
+    /// The file of what an adversary does to its memory, where there is one.
+    pub script: Option<&'a str>,
+    /// The key that the keys of its device are derived from.
+    pub device_key: [u8; 32],
 }
 
 /// How the memory of a run is protected.

@@ -3,15 +3,15 @@ ghost use Rattle.std.specs.Prelude.{◌≡◌, IsTrue, codes, option_map, true};
 ghost use Rattle.std.specs.Str.{bytes_eq};
 ghost use Rattle.clap.specs.Walk.{first_of, rows_of};
 ghost use Rattle.clap.specs.Words.{found_of, subcommand_rows_of};
-ghost use Rattle.chip_words.specs.Commands.{HasExecution, HasJudgement, HasNumber, HasProgram, HasProtectedRun, HasReport, HasValue, HasWorkload, IfCommand};
-ghost use Rattle.chip_words.specs.Request.{asked_in, asked_of_trace, asked_to_assemble, asked_to_disassemble, asked_to_judge, asked_to_measure, asked_to_run, asked_to_run_plain, asked_to_trace, asked_to_verify, by_values, device_key_of, execution_of, file_of, form_of, geometry_of, is_flat as is_flat_in, is_taken, judgement_of, layout_of, levels_of, nonce_of, number_of, numeral_value, program_of, report_of, run_of, tags_of, terms_of, value_of};
-ghost use Rattle.chip_words.specs.Words.{answer_asked, execution_asked, file_asked, judge_asked, report_asked, run_asked};
+ghost use Rattle.chip_words.specs.Commands.{HasExecution, HasJudgement, HasNumber, HasPair, HasProgram, HasProtectedRun, HasReport, HasValue, HasWorkload, IfCommand};
+ghost use Rattle.chip_words.specs.Request.{asked_in, asked_of_pair, asked_of_trace, asked_to_assemble, asked_to_disassemble, asked_to_judge, asked_to_measure, asked_to_pair, asked_to_run, asked_to_run_plain, asked_to_trace, asked_to_verify, by_values, device_key_of, execution_of, file_of, form_of, geometry_of, is_flat as is_flat_in, is_taken, judgement_of, key_of, layout_of, levels_of, nonce_of, number_of, numeral_value, pair_of, program_of, report_of, run_of, side_of, tags_of, terms_of, value_of};
+ghost use Rattle.chip_words.specs.Words.{answer_asked, execution_asked, file_asked, judge_asked, pair_asked, report_asked, run_asked, side_asked};
 
 use crate::defaults::default_levels;
 use crate::fault::ValueFault;
 use crate::request::{
-    Execution, JudgedTrace, ProgramFile, ProgramForm, ProtectedRun, ReportFile, Request, Tags,
-    Terms,
+    Execution, JudgedTrace, PairRun, ProgramFile, ProgramForm, ProtectedRun, ReportFile, Request,
+    SideRun, Tags, Terms,
 };
 use clap::ArgMatches;
 use hex::FromHex;
@@ -36,18 +36,33 @@ pub(crate) fn requested<'a>(matches: &ArgMatches<'a>) -> Result<Request<'a>, Val
     }
 }
 
-// What `trace` or `judge` asks for.
+// What `trace`, `judge` or `pair` asks for.
 fn request_of_trace<'a>(name: &str, values: &ArgMatches<'a>) -> Result<Request<'a>, ValueFault>
     requires taken { IsTrue (is_taken (asked_of_trace name.now (rows_of (found_of values.now)))) }
     requires trace { bytes_eq name.now (codes "trace") ≡ true
         → HasProtectedRun (rows_of (found_of values.now)) }
     requires judge { bytes_eq name.now (codes "judge") ≡ true
         → HasJudgement (rows_of (found_of values.now)) }
+    requires pair { bytes_eq name.now (codes "pair") ≡ true
+        → HasPair (rows_of (found_of values.now)) }
     ensures { asked_of_trace name.now (rows_of (found_of values.now)) ≡ answer_asked result }
 {
     match name {
         "trace" => trace_request(values),
         "judge" => judgement_request(values),
+        _ => request_of_pair(name, values),
+    }
+}
+
+// What `pair` asks for.
+fn request_of_pair<'a>(name: &str, values: &ArgMatches<'a>) -> Result<Request<'a>, ValueFault>
+    requires taken { IsTrue (is_taken (asked_of_pair name.now (rows_of (found_of values.now)))) }
+    requires pair { bytes_eq name.now (codes "pair") ≡ true
+        → HasPair (rows_of (found_of values.now)) }
+    ensures { asked_of_pair name.now (rows_of (found_of values.now)) ≡ answer_asked result }
+{
+    match name {
+        "pair" => pair_request(values),
         _ => unreachable!(),
     }
 }
@@ -117,6 +132,19 @@ fn judgement_request<'a>(values: &ArgMatches<'a>) -> Result<Request<'a>, ValueFa
     Ok(Request::Judge(judged_trace(values, geometry(values)?)))
 }
 
+// `pair`. Both keys have their form before they are compared.
+fn pair_request<'a>(values: &ArgMatches<'a>) -> Result<Request<'a>, ValueFault>
+    requires { HasPair (rows_of (found_of values.now)) }
+    ensures { answer_asked result ≡ by_values (asked_to_pair (rows_of (found_of values.now))) }
+{
+    let first_key = key(values, "key")?;
+    let second_key = key(values, "key2")?;
+    if first_key == second_key {
+        return Err(ValueFault::Keys);
+    }
+    Ok(Request::Pair(pair_run(values, first_key, second_key)))
+}
+
 fn protected_run<'a>(values: &ArgMatches<'a>, geometry: Geometry, terms: Terms) -> ProtectedRun<'a>
     requires { HasProtectedRun (rows_of (found_of values.now)) }
     ensures { run_asked result ≡ run_of (rows_of (found_of values.now)) geometry terms }
@@ -159,7 +187,14 @@ fn device_key(values: &ArgMatches<'_>) -> Result<[u8; 32], ValueFault>
     requires { HasValue (codes "key") (rows_of (found_of values.now)) }
     ensures { result ≡ device_key_of (rows_of (found_of values.now)) }
 {
-    <[u8; 32] as FromHex>::from_hex(value(values, "key")).map_err(|_| ValueFault::Key)
+    key(values, "key")
+}
+
+fn key(values: &ArgMatches<'_>, id: &str) -> Result<[u8; 32], ValueFault>
+    requires { HasValue id.now (rows_of (found_of values.now)) }
+    ensures { result ≡ key_of id.now (rows_of (found_of values.now)) }
+{
+    <[u8; 32] as FromHex>::from_hex(value(values, id)).map_err(|_| ValueFault::Key)
 }
 
 fn nonce(values: &ArgMatches<'_>) -> Result<[u8; 16], ValueFault>
@@ -186,6 +221,30 @@ fn judged_trace<'a>(values: &ArgMatches<'a>, geometry: Geometry) -> JudgedTrace<
     JudgedTrace {
         execution: execution(values, geometry),
         trace: value(values, "trace"),
+    }
+}
+
+fn pair_run<'a>(values: &ArgMatches<'a>, first_key: [u8; 32], second_key: [u8; 32]) -> PairRun<'a>
+    requires { HasPair (rows_of (found_of values.now)) }
+    ensures { pair_asked result ≡ pair_of (rows_of (found_of values.now)) first_key second_key }
+{
+    PairRun {
+        first: side(values, "file1", "script", first_key),
+        second: side(values, "file2", "script2", second_key),
+        order: text(values, "order"),
+    }
+}
+
+// One of two programs, by the arguments that name its file and its script.
+fn side<'a>(values: &ArgMatches<'a>, file: &str, script: &str, device_key: [u8; 32]) -> SideRun<'a>
+    requires { HasValue file.now (rows_of (found_of values.now)) }
+    ensures { side_asked result
+        ≡ side_of file.now script.now (rows_of (found_of values.now)) device_key }
+{
+    SideRun {
+        name: value(values, file),
+        script: text(values, script),
+        device_key,
     }
 }
 
