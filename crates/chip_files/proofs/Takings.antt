@@ -18,7 +18,7 @@ use Rattle.chip_words.specs.declared.request.ProgramForm.{ProgramForm}
 use Rattle.chip_words.specs.declared.request.ProgramForm.TheVariants.{ElfFile, FlatFile, AssemblyText}
 use Rattle.sec_base.specs.Program.{IsImageOf, Program}
 use Rattle.chip_files.specs.declared.refusal.Refusal.{Refusal}
-use Rattle.chip_files.specs.declared.refusal.Refusal.TheVariants.{Usage, WrongValue, Unread, TooLong, Elf, Asm, Script, Report, Trace}
+use Rattle.chip_files.specs.declared.refusal.Refusal.TheVariants.{Usage, WrongValue, Unread, TooLong, Elf, Asm, Script, Report, Trace, Order}
 use Rattle.chip_files.specs.declared.stop.Stop.{Stop}
 use Rattle.chip_files.specs.declared.stop.Stop.TheVariants.{Refused, NoMemory}
 use Rattle.chip_files.specs.Program.{IsImageIn, limit_of, or_refusal, program_in, program_of_file, script_in, script_limit}
@@ -89,6 +89,7 @@ IsOfBytes (Asm line fault) = Unit {0}
 IsOfBytes (Script line fault) = Unit {0}
 IsOfBytes (Report fault) = Unit {0}
 IsOfBytes (Trace fault) = Unit {0}
+IsOfBytes (Order error) = Unit {0}
 
 as_refused : {X : Type 0} (refusal other : Refusal) → IsOfBytes refusal → ◌≡◌ {A = Result X Refusal} (Err refusal) (Err other) → IsOfBytes other
 as_refused refusal other is same =
@@ -115,6 +116,7 @@ is_cause (Asm line fault) need old new of_bytes bad = bad
 is_cause (Script line fault) need old new of_bytes bad = bad
 is_cause (Report fault) need old new of_bytes bad = bad
 is_cause (Trace fault) need old new of_bytes bad = bad
+is_cause (Order error) need old new of_bytes bad = bad
 
 -- its file was read, and is no program
 pub untold : (stop : Stop) (file : FileAsked) (bytes : List ℕ) (old new : FilesState) → HasBytes old.held file.name bytes → length bytes ≤ limit_of file.form → Asks (program_need file ∷ []) old new →
@@ -146,7 +148,7 @@ text_image size text image is =
 pub later_by : {old new : FilesState} → new.held ≡ old.held → new.faults ≡ old.faults → old.taken ≤ new.taken → IsLater old new
 later_by held faults taken = record { held = held; faults = faults; taken = taken }
 
-later_on : (old mid new : FilesState) → IsLater old mid → IsLater mid new → IsLater old new
+pub later_on : (old mid new : FilesState) → IsLater old mid → IsLater mid new → IsLater old new
 later_on old mid new first then = record {
   held = then.held ∙ first.held;
   faults = then.faults ∙ first.faults;
@@ -160,7 +162,7 @@ accepted_before need bytes old mid same accepted = record {
   formed = accepted.formed;
 }
 
-all_before : (needs : List Need) (old mid : FilesState) → mid.held ≡ old.held → AreAccepted mid needs → AreAccepted old needs
+pub all_before : (needs : List Need) (old mid : FilesState) → mid.held ≡ old.held → AreAccepted mid needs → AreAccepted old needs
 all_before [] old mid same accepted = tt
 all_before (need ∷ needs) old mid same accepted =
     ((accepted.0.0, accepted_before need accepted.0.0 old mid same accepted.0.1), all_before needs old mid same accepted.1)
@@ -187,6 +189,7 @@ whole_cause (Asm line fault) need old mid new later cause = misformed_before (As
 whole_cause (Script line fault) need old mid new later cause = misformed_before (Script line fault) need old mid later.held cause
 whole_cause (Report fault) need old mid new later cause = misformed_before (Report fault) need old mid later.held cause
 whole_cause (Trace fault) need old mid new later cause = misformed_before (Trace fault) need old mid later.held cause
+whole_cause (Order error) need old mid new later cause = misformed_before (Order error) need old mid later.held cause
 
 names_of_both : (before after : List Need) → names (before ++ after) ≡ names before ++ names after
 names_of_both [] after = refl

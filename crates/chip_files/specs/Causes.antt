@@ -5,7 +5,7 @@ use Rattle.sec_base.specs.Prefix.{IsPrefix}
 use Rattle.sec_base.specs.Files.{FilesState, HasBytes, HasOver}
 use Rattle.chip_words.specs.Request.{Asked, WordsFault, not_taken, wrong_value}
 use Rattle.chip_files.specs.declared.refusal.Refusal.{Refusal}
-use Rattle.chip_files.specs.declared.refusal.Refusal.TheVariants.{Usage, WrongValue, Unread, TooLong, Elf, Asm, Script, Report, Trace}
+use Rattle.chip_files.specs.declared.refusal.Refusal.TheVariants.{Usage, WrongValue, Unread, TooLong, Elf, Asm, Script, Report, Trace, Order}
 use Rattle.chip_files.specs.Needs.{Need, AreAccepted, names, needs_of}
 
 -- ---- what is asked for
@@ -43,6 +43,7 @@ IsCause (Asm line fault) need old new = IsMisformed (Asm line fault) need old
 IsCause (Script line fault) need old new = IsMisformed (Script line fault) need old
 IsCause (Report fault) need old new = IsMisformed (Report fault) need old
 IsCause (Trace fault) need old new = IsMisformed (Trace fault) need old
+IsCause (Order error) need old new = IsMisformed (Order error) need old
 
 -- other files were read since, each whole and without a fault
 pub record IsLater (old new : FilesState) : Type 0 where
@@ -85,3 +86,4 @@ IsRefused (Asm line fault) request old new = Stops (Asm line fault) (needs_of re
 IsRefused (Script line fault) request old new = Stops (Script line fault) (needs_of request) old new
 IsRefused (Report fault) request old new = Stops (Report fault) (needs_of request) old new
 IsRefused (Trace fault) request old new = Stops (Trace fault) (needs_of request) old new
+IsRefused (Order error) request old new = Stops (Order error) (needs_of request) old new

@@ -2,12 +2,14 @@
 use Rattle.std.specs.Prelude.{◌≡◌, ◌<◌, ◌≤◌, ◌≢◌, ◌⊎◌, List, [], ◌∷◌, ◌++◌, ℕ, length, map, Option, Some, None, Result, Ok, Err}
 use Rattle.std.specs.Result.{result_err}
 use Rattle.sec_base.specs.Files.{FilesState, HasBytes}
-use Rattle.chip_words.specs.Request.{Asked, ExecutionAsked, FileAsked, JudgeAsked, ReportAsked, RunAsked, WordsFault, to_assemble, to_disassemble, to_judge, to_measure, to_run, to_run_plain, to_trace, to_verify, to_bench}
+use Rattle.chip_words.specs.Defaults.{side_run}
+use Rattle.chip_words.specs.Request.{Asked, ExecutionAsked, FileAsked, JudgeAsked, PairAsked, ReportAsked, RunAsked, WordsFault, to_assemble, to_disassemble, to_judge, to_measure, to_pair, to_run, to_run_plain, to_trace, to_verify, to_bench}
 use Rattle.chip_files.specs.declared.refusal.Refusal.{Refusal}
 use Rattle.chip_files.specs.Program.{fault_in, limit_of, script_in, script_limit}
+use Rattle.chip_files.specs.Orders.{order_fault, order_limit}
 use Rattle.chip_files.specs.Traces.{trace_in, trace_limit}
 use Rattle.chip_files.specs.Verdict.{form_fault, report_limit, verdict_of}
-use Rattle.sec_base.specs.Geometry.{GeometryView}
+use Rattle.sec_base.specs.Geometry.{GeometryView, one}
 
 -- a file's name, how many bytes of it are read at most, and what is wrong with bytes that don't have its form
 pub record Need : Type 0 where
@@ -52,6 +54,15 @@ abbrev pub trace_need : GeometryView → List ℕ → Need
 trace_need geometry name =
     record { name = name; limit = trace_limit; fault = λ bytes. result_err (trace_in geometry bytes) }
 
+-- an order of turns names a side in each byte
+abbrev pub order_need : List ℕ → Need
+order_need name = record { name = name; limit = order_limit; fault = order_fault }
+
+-- the order of turns is needed where the request names one
+abbrev pub order_needs : Option (List ℕ) → List Need
+order_needs None = []
+order_needs (Some name) = order_need name ∷ []
+
 -- a program, and then its input, where one is named
 abbrev pub execution_needs : ExecutionAsked → List Need
 execution_needs execution = program_need execution.file ∷ input_needs execution.input
@@ -66,6 +77,12 @@ abbrev pub judge_needs : JudgeAsked → List Need
 judge_needs asked =
     execution_needs asked.execution ++ trace_need asked.execution.file.geometry asked.trace ∷ []
 
+-- two programs, then the order of their turns, and then what an adversary does to the memory of the first one and of the second
+-- one, each where one is named
+abbrev pub pair_needs : PairAsked → List Need
+pair_needs pair = program_need (side_run pair.first).execution.file ∷ program_need (side_run pair.second).execution.file
+    ∷ (order_needs pair.order ++ script_needs (one 4) pair.first.script ++ script_needs (one 4) pair.second.script)
+
 -- the files that a request needs: a generated program needs none
 abbrev pub asked_needs : Asked → List Need
 asked_needs (to_run asked) = run_needs asked
@@ -77,6 +94,7 @@ asked_needs (to_verify report) = report_need report ∷ []
 asked_needs (to_bench number) = []
 asked_needs (to_trace asked) = run_needs asked
 asked_needs (to_judge asked) = judge_needs asked
+asked_needs (to_pair pair) = pair_needs pair
 
 -- words that are no request need nothing
 abbrev pub needs_of : Result Asked WordsFault → List Need

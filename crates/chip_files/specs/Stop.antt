@@ -11,9 +11,10 @@ use Rattle.elf_load.specs.declared.fault.ElfError.{ElfError}
 use Rattle.elf_load.specs.declared.fault.ElfError.TheVariants.{Fault as ElfFaulty, NoMemory as elf_no_memory}
 use Rattle.bus_trace.specs.declared.fault.TraceError.{TraceError}
 use Rattle.bus_trace.specs.declared.fault.TraceError.TheVariants.{Fault as TraceFaulty, NoMemory as trace_no_memory}
+use Rattle.turn_order.specs.declared.order_error.OrderError.{OrderError}
 use Rattle.rv32_asm.specs.declared.fault.AsmError.{AsmError}
 use Rattle.rv32_asm.specs.declared.fault.AsmError.TheVariants.{Fault as AsmFaulty, NoMemory as assembly_no_memory}
-use Rattle.chip_files.specs.declared.refusal.Refusal.TheVariants.{Usage, WrongValue, Unread, TooLong, Elf, Asm, Script, Trace}
+use Rattle.chip_files.specs.declared.refusal.Refusal.TheVariants.{Usage, WrongValue, Unread, TooLong, Elf, Asm, Script, Trace, Order}
 use Rattle.chip_files.specs.declared.stop.Stop.{Stop}
 use Rattle.chip_files.specs.declared.stop.Stop.TheVariants.{Refused, NoMemory}
 use Rattle.chip_files.specs.Needs.{Need}
@@ -55,3 +56,7 @@ script_stop_of script_no_memory = NoMemory
 abbrev pub trace_stop_of : TraceError → Stop
 trace_stop_of (TraceFaulty fault) = Refused (Trace fault)
 trace_stop_of trace_no_memory = NoMemory
+
+-- why bytes are no order of turns
+abbrev pub order_stop_of : OrderError → Stop
+order_stop_of error = Refused (Order error)

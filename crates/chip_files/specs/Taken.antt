@@ -1,15 +1,16 @@
--- The programs, scripts, inputs and traces that files are, and what was read for a request.
+-- The programs, scripts, inputs, traces and orders that files are, and what was read for a request.
 use Rattle.std.specs.Prelude.{◌≡◌, List, [], ◌∷◌, ℕ, Option, Some, None, IsSome, Ok}
 use Rattle.adversary_script.specs.declared.script.ScriptLine.{ScriptLine}
 use Rattle.bus_trace.specs.declared.trace.Trace.{Trace}
 use Rattle.sec_base.specs.Files.{FilesState}
 use Rattle.sec_base.specs.Program.{Program}
-use Rattle.chip_words.specs.Request.{ExecutionAsked, FileAsked, JudgeAsked, ReportAsked, RunAsked}
+use Rattle.chip_words.specs.Defaults.{side_run}
+use Rattle.chip_words.specs.Request.{ExecutionAsked, FileAsked, JudgeAsked, PairAsked, ReportAsked, RunAsked}
 use Rattle.chip_files.specs.Program.{program_of_file, script_in}
 use Rattle.chip_files.specs.Traces.{trace_in}
-use Rattle.chip_files.specs.Needs.{IsAccepted, execution_needs, input_need, judge_needs, program_need, report_need, run_needs, script_need, trace_need}
+use Rattle.chip_files.specs.Needs.{IsAccepted, execution_needs, input_need, judge_needs, order_need, pair_needs, program_need, report_need, run_needs, script_need, trace_need}
 use Rattle.chip_files.specs.Causes.{Asks}
-use Rattle.sec_base.specs.Geometry.{GeometryView}
+use Rattle.sec_base.specs.Geometry.{GeometryView, one}
 
 -- the files tell their bytes
 abbrev pub Tell : FilesState → Type 0
@@ -45,6 +46,11 @@ pub record IsTraceFile (files : FilesState) (geometry : GeometryView) (name : Li
   pub accepted : IsAccepted files (trace_need geometry name) bytes
   pub is : trace_in geometry bytes ≡ Ok trace
 
+-- the order is the named file's bytes, and empty where none is named
+abbrev pub IsOrderOf : FilesState → Option (List ℕ) → List ℕ → Type 0
+IsOrderOf files None order = order ≡ []
+IsOrderOf files (Some name) order = IsAccepted files (order_need name) order
+
 -- a program and its input were read and accepted
 pub record ReadsExecution (execution : ExecutionAsked) (old new : FilesState) (program : Program) (input : List ℕ) : Type 0 where
   pub program_is : IsProgram old execution.file program
@@ -64,6 +70,16 @@ pub record ReadsJudged (judge : JudgeAsked) (old new : FilesState) (program : Pr
   pub input_is : IsInput old judge.execution.input input
   pub trace_is : IsTraceFile old judge.execution.file.geometry judge.trace trace
   pub asked : Asks (judge_needs judge) old new
+
+-- two programs, the order of their turns and the scripts of their adversaries were read and accepted, in this order
+pub record ReadsPair (pair : PairAsked) (old new : FilesState) (first second : Program) (order : List ℕ)
+    (script1 script2 : Option (List ScriptLine)) : Type 0 where
+  pub first_is : IsProgram old (side_run pair.first).execution.file first
+  pub second_is : IsProgram old (side_run pair.second).execution.file second
+  pub order_is : IsOrderOf old pair.order order
+  pub first_script_is : IsScript old (one 4) pair.first.script script1
+  pub second_script_is : IsScript old (one 4) pair.second.script script2
+  pub asked : Asks (pair_needs pair) old new
 
 -- a program was read and accepted
 pub record ReadsProgram (file : FileAsked) (old new : FilesState) (program : Program) : Type 0 where

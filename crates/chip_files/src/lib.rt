@@ -2,11 +2,13 @@
 //! its limit, up to the first that is refused.
 #![tactic(auto)]
 
+mod pair;
 mod program;
 mod refusal;
 mod stop;
 mod taking;
 
+pub use pair::{PairFiles, take_pair};
 pub use refusal::Refusal;
 pub use stop::Stop;
 pub use taking::{take_execution, take_judged, take_program, take_report, take_run};

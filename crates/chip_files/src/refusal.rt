@@ -5,6 +5,7 @@ use bus_trace::TraceFault;
 use chip_words::ValueFault;
 use elf_load::ElfFault;
 use rv32_asm::AsmFault;
+use turn_order::OrderError;
 
 /// Why nothing was done.
 #[derive(Debug, Drop)]
@@ -37,4 +38,6 @@ pub enum Refusal {
     Report(ReportError),
     /// A file is no trace for the memory.
     Trace(TraceFault),
+    /// A byte of an order of turns names no side.
+    Order(OrderError),
 }

@@ -1,6 +1,6 @@
 // Why nothing was done.
 ghost use Rattle.std.specs.Prelude.{◌≡◌};
-ghost use Rattle.chip_files.specs.Stop.{assembly_stop_of, elf_stop_of, read_stop_of, script_stop_of, trace_stop_of, words_stop_of};
+ghost use Rattle.chip_files.specs.Stop.{assembly_stop_of, elf_stop_of, order_stop_of, read_stop_of, script_stop_of, trace_stop_of, words_stop_of};
 ghost use Rattle.chip_files.specs.declared.stop.Stop.TheVariants.{NoMemory as no_memory};
 
 use crate::refusal::Refusal;
@@ -10,6 +10,7 @@ use chip_words::WordsError;
 use elf_load::ElfError;
 use rv32_asm::AsmError;
 use sec_base::{NoMemory, ReadStop};
+use turn_order::OrderError;
 
 /// Why nothing was done.
 #[derive(Debug, Drop)]
@@ -96,5 +97,13 @@ impl From<TraceError> for Stop {
             TraceError::Fault(fault) => Stop::Refused(Refusal::Trace(fault)),
             TraceError::NoMemory => Stop::NoMemory,
         }
+    }
+}
+
+impl From<OrderError> for Stop {
+    ghost from_gives = { λ error stop. stop ≡ order_stop_of error };
+
+    fn from(error: OrderError) -> Self {
+        Stop::Refused(Refusal::Order(error))
     }
 }

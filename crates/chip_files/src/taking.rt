@@ -172,7 +172,7 @@ fn report_in(text: &[u8], device_key: &[u8; 32]) -> Result<Option<Signed>, Stop>
 }
 
 // The script of the adversary, where one is named. It has to fit the memory.
-fn take_script<F: Files>(
+pub(crate) fn take_script<F: Files>(
     alloc: Global,
     name: Option<&str>,
     geometry: Geometry,
@@ -242,7 +242,12 @@ fn take_trace<F: Files>(
 }
 
 // A file's bytes, which are within the limit.
-fn read_file<F: Files>(alloc: Global, name: &str, limit: u64, files: &mut F) -> Result<Bytes, Stop>
+pub(crate) fn read_file<F: Files>(
+    alloc: Global,
+    name: &str,
+    limit: u64,
+    files: &mut F,
+) -> Result<Bytes, Stop>
     ensures bytes { IfOk result (HasBytes (F.state files.old).held name.now) }
     ensures within { IfOk result (λ bytes. length bytes ≤ limit) }
     ensures asked { OnOk result ((F.state files.new).asked
