@@ -1,7 +1,8 @@
 -- A run on the device, as its pieces were made.
-use Rattle.std.proofs.Common.{◌≡◌, ◌∙◌, ℕ, List, map, Option, Some, None, Result, Ok, Err, refl, ap, subst}
+use Rattle.std.proofs.Common.{◌≡◌, ◌∙◌, ℕ, List, [], Option, Some, None, Result, Ok, Err, refl, sym, ap, subst}
 use Rattle.std.specs.Result.{IsOkAnd}
 use Rattle.sec_base.specs.Geometry.{GeometryView, memory_size}
+use Rattle.sec_base.specs.Sink.{SinkState}
 use Rattle.sec_base.specs.declared.image.Image.{Image}
 use Rattle.elf_load.specs.Measurement.{measurement_by, measurement_of}
 use Rattle.hmac_tag.specs.DeviceKeys.{keys_of}
@@ -14,18 +15,21 @@ use Rattle.sec_base.specs.Program.{IsImageOf, Program}
 use Rattle.chip_words.specs.declared.request.Tags.TheVariants.{Hmac, Xor}
 use Rattle.chip_words.specs.declared.request.Terms.{Terms}
 use Rattle.adversary_script.specs.declared.script.ScriptLine.{ScriptLine}
-use Rattle.sec_base.specs.Place.{IsPlace}
 use Rattle.sec_base.specs.declared.message.Message.{Message}
-use Rattle.bus_model.specs.Access.{Access, AreOf, CameBy}
-use Rattle.bus_model.specs.BusHistory.{BusHistory, new_history}
-use Rattle.checked_bus.specs.Makes.{access_of}
-use Rattle.chip_run.specs.ByInstruction.{Basis, GoesByInstruction}
-use Rattle.chip_run.specs.Run.{KeepsAccesses, Terms as RunTerms, basis_of}
-use Rattle.chip_run.specs.declared.RunRecord.{RunRecord}
+use Rattle.bus_model.specs.Access.{Access, CameBy}
+use Rattle.bus_model.specs.BusHistory.{BusHistory, NothingWritten, new_history}
+use Rattle.chip_run.specs.Pair.{RunsAsSide}
+use Rattle.chip_run.specs.Run.{KeepsAccesses, RunsProtected, Terms as RunTerms, run_terms}
+use Rattle.chip_run.specs.declared.pair.SideStop.{SideStop}
+use Rattle.chip_run.specs.declared.record.RunRecord.{RunRecord}
+use Rattle.chip_run.specs.declared.record.Setup.{Setup}
+use Rattle.chip_words.specs.Request.{RunAsked}
 use Rattle.chip_device.specs.Buses.{IsBusOf, IsSameKind, WentOver, kind_told, run_history}
 use Rattle.chip_device.specs.declared.run_bus.RunBus.{RunBus}
 use Rattle.chip_device.specs.declared.run_bus.RunBus.TheVariants.{Honest, Script}
-use Rattle.chip_device.specs.Device.{device_enc_key, device_tag, opening}
+use Rattle.chip_device.specs.Device.{device_enc_key, device_tag, opening, setup_of, terms_of}
+use Rattle.chip_device.specs.Paired.{RunsBeside}
+use Rattle.chip_device.specs.Printed.{gathered}
 
 -- the tags are the device's, where they are HMACs
 pub hmac_tag_is : (terms : Terms) (tagger : TagKeys) (keys : Keys) (geometry : GeometryView) → terms.tags ≡ Hmac → tagger ≡ record { line_key = keys.line_key; tree_key = keys.tree_key } → keys ≡ keys_of terms.device_key →
@@ -71,26 +75,48 @@ still_of (Some script) (Script old) (Honest new) accesses is same = absurd same
 still_of None (Script old) new accesses is same = absurd is
 still_of (Some script) (Honest old) new accesses is same = absurd is
 
--- the basis is the same
-same_basis : (terms asked : RunTerms) → terms.start ≡ asked.start → terms.stored_lines ≡ asked.stored_lines → terms.geometry ≡ asked.geometry → terms.enc_key ≡ asked.enc_key →
-    basis_of terms ≡ basis_of asked
-same_basis terms asked starts stored geometry key = rw (starts, stored, geometry, key) refl
+-- ---- the terms of a run, as it was set up
 
--- what a run tells of its accesses, by the terms that it was asked on
-pub keeps_asked : (terms asked : RunTerms) (run : RunRecord) (after : BusHistory) (accesses : List Access) → terms.start ≡ asked.start → terms.stored_lines ≡ asked.stored_lines → terms.tag_of ≡ asked.tag_of →
-    terms.geometry ≡ asked.geometry → terms.enc_key ≡ asked.enc_key → KeepsAccesses terms after accesses run → KeepsAccesses asked after accesses run
-keeps_asked terms asked run after accesses starts stored tags geometry key keeps = record {
-  written = keeps.written;
-  unwritten = keeps.unwritten;
-  made = keeps.made;
-  writes = keeps.writes ∙ ap (λ (tag_of : Message → List ℕ). map (access_of tag_of) keeps.written) tags;
-  few = keeps.few;
-  inside = subst (λ (shape : GeometryView). AreOf (IsPlace shape) accesses) geometry keeps.inside;
-  shown = keeps.shown;
-  tampered = keeps.tampered;
-  by_instruction = λ quiet. subst (λ (basis : Basis). GoesByInstruction basis after accesses run.made run.retired run.ending)
-      (same_basis terms asked starts stored geometry key) (keeps.by_instruction quiet);
-}
+-- they are those that it was asked on
+terms_are : (asked : RunAsked) (program : Program) (input : List ℕ) (image : Image) (setup : Setup) (tagged : Message → List ℕ) → setup ≡ setup_of asked →
+    tagged ≡ device_tag asked.terms asked.execution.file.geometry → IsImageOf (memory_size asked.execution.file.geometry) program image → run_terms image input setup tagged ≡ terms_of asked program input
+terms_are asked program input image setup tagged is tags flat =
+    let geometry : setup.geometry ≡ asked.execution.file.geometry = ap (λ (s : Setup). s.geometry) is in
+    let budget : setup.budget ≡ asked.execution.steps = ap (λ (s : Setup). s.budget) is in
+    let limit : setup.page_limit ≡ asked.terms.page_limit = ap (λ (s : Setup). s.page_limit) is in
+    let nonce : setup.nonce ≡ asked.terms.nonce = ap (λ (s : Setup). s.nonce) is in
+    let key = enc_key_is asked.terms setup.keys (ap (λ (s : Setup). s.keys) is) in
+    let signed : setup.keys.report_key ≡ (keys_of asked.terms.device_key).report_key = ap (λ (s : Setup). s.keys.report_key) is in
+    let opens = opening_is asked.execution.file.geometry program input image flat in
+    let stored = stored_lines_are asked.execution.file.geometry program image flat in
+    let measured = measurement_is asked.execution.file.geometry program image flat in
+    rw (geometry, budget, limit, nonce, key, signed, opens, stored, measured, tags) refl
+
+-- where tags are HMACs
+pub hmac_terms_are : (asked : RunAsked) (program : Program) (input : List ℕ) (image : Image) (setup : Setup) (tagger : TagKeys) → asked.terms.tags ≡ Hmac → setup ≡ setup_of asked →
+    tagger ≡ record { line_key = setup.keys.line_key; tree_key = setup.keys.tree_key } → IsImageOf (memory_size asked.execution.file.geometry) program image →
+    run_terms image input setup (engine_tag (tag_of tagger.line_key) (tag_of tagger.tree_key) setup.geometry) ≡ terms_of asked program input
+hmac_terms_are asked program input image setup tagger tags is under flat =
+    terms_are asked program input image setup (engine_tag (tag_of tagger.line_key) (tag_of tagger.tree_key) setup.geometry) is
+    (hmac_tag_is asked.terms tagger setup.keys setup.geometry tags under (ap (λ (s : Setup). s.keys) is) ∙ ap (λ (s : Setup). device_tag asked.terms s.geometry) is) flat
+
+-- and where they are made by xor
+pub xor_terms_are : (asked : RunAsked) (program : Program) (input : List ℕ) (image : Image) (setup : Setup) (tagger : TagKeys) → asked.terms.tags ≡ Xor → setup ≡ setup_of asked →
+    tagger ≡ record { line_key = setup.keys.line_key; tree_key = setup.keys.tree_key } → IsImageOf (memory_size asked.execution.file.geometry) program image →
+    run_terms image input setup (engine_tag (xor_tag_of tagger.line_key) (xor_tag_of tagger.tree_key) setup.geometry) ≡ terms_of asked program input
+xor_terms_are asked program input image setup tagger tags is under flat =
+    terms_are asked program input image setup (engine_tag (xor_tag_of tagger.line_key) (xor_tag_of tagger.tree_key) setup.geometry) is
+    (xor_tag_is asked.terms tagger setup.keys setup.geometry tags under (ap (λ (s : Setup). s.keys) is) ∙ ap (λ (s : Setup). device_tag asked.terms s.geometry) is) flat
+
+-- what a run comes to, by the terms that it was asked on, over a bus that was new
+pub runs_asked : (terms asked : RunTerms) (out out' : SinkState) (before begins after : BusHistory) (run : RunRecord) → terms ≡ asked → before ≡ begins → RunsProtected terms out out' before after run →
+    RunsProtected asked out out' begins after run
+runs_asked terms asked out out' before begins after run same new runs =
+    subst (λ (t : RunTerms). RunsProtected t out out' begins after run) same (subst (λ (b : BusHistory). RunsProtected terms out out' b after run) new runs)
+
+-- and so what it tells of its accesses
+pub keeps_asked : (terms asked : RunTerms) (run : RunRecord) (after : BusHistory) (accesses : List Access) → terms ≡ asked → KeepsAccesses terms after accesses run → KeepsAccesses asked after accesses run
+keeps_asked terms asked run after accesses same keeps = subst (λ (t : RunTerms). KeepsAccesses t after accesses run) same keeps
 
 -- what went over a bus that was new
 pub went_over : (asked : RunTerms) (run : RunRecord) (old new : RunBus) (accesses : List Access) → run_history old ≡ new_history asked.geometry → IsSameKind old accesses new →
@@ -99,4 +125,22 @@ went_over asked run old new accesses begins moved keeps = record {
   accesses = accesses;
   came = subst (λ (history : BusHistory). CameBy history accesses (run_history new)) begins (kind_told old new accesses moved);
   keeps = keeps;
+}
+
+-- a bus that is new fits a setup, and nothing was written to it
+pub has_shape : (asked : RunAsked) (setup : Setup) → setup ≡ setup_of asked → setup.geometry ≡ asked.execution.file.geometry
+has_shape asked setup is = ap (λ (s : Setup). s.geometry) is
+
+pub is_unwritten : (history : BusHistory) (geometry : GeometryView) → history ≡ new_history geometry → NothingWritten history
+is_unwritten history geometry is = subst (λ (h : BusHistory). NothingWritten h) (sym is) (record { zeros = λ place inside. refl })
+
+-- one of two programs that shared the core, by the terms that it was asked on, over a bus that was new
+pub runs_beside : (terms asked : RunTerms) (begun printed : List ℕ) (run : RunRecord) (old new : RunBus) (stop : Option SideStop) (accesses : List Access) → terms ≡ asked → begun ≡ [] →
+    run_history old ≡ new_history asked.geometry → RunsAsSide terms (gathered begun) (gathered printed) (run_history old) (run_history new) stop run → IsSameKind old accesses new → KeepsAccesses terms (run_history new) accesses run →
+    RunsBeside asked printed run new stop
+runs_beside terms asked begun printed run old new stop accesses same empty begins side moved keeps = record {
+  side = subst (λ (t : RunTerms). RunsAsSide t (gathered []) (gathered printed) (new_history asked.geometry) (run_history new) stop run) same
+      (subst (λ (b : BusHistory). RunsAsSide terms (gathered []) (gathered printed) b (run_history new) stop run) begins
+      (subst (λ (bytes : List ℕ). RunsAsSide terms (gathered bytes) (gathered printed) (run_history old) (run_history new) stop run) empty side));
+  accesses = went_over asked run old new accesses begins moved (keeps_asked terms asked run (run_history new) accesses same keeps);
 }

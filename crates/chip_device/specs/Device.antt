@@ -11,6 +11,7 @@ use Rattle.rv32_core.specs.Machine.{Machine, opening_of}
 use Rattle.rv32_run.specs.StoredLines.{image_lines}
 use Rattle.chip_run.specs.Report.{ReportTerms}
 use Rattle.chip_run.specs.Run.{Terms as RunTerms}
+use Rattle.chip_run.specs.declared.record.Setup.{Setup}
 use Rattle.chip_words.specs.Request.{RunAsked}
 use Rattle.chip_words.specs.declared.request.Tags.{Tags}
 use Rattle.chip_words.specs.declared.request.Tags.TheVariants.{Hmac, Xor}
@@ -33,6 +34,16 @@ device_enc_key terms = (keys_of terms.device_key).enc_key
 -- the plain machine as the program begins on an input, in a memory of this geometry
 abbrev pub opening : GeometryView → Program → List ℕ → Machine
 opening geometry program input = opening_of program.entry (memory_size geometry) program.segments input
+
+-- what a run is given as it was asked for, beside its program, its input and its bus
+abbrev pub setup_of : RunAsked → Setup
+setup_of asked = record {
+  geometry = asked.execution.file.geometry;
+  keys = keys_of asked.terms.device_key;
+  budget = asked.execution.steps;
+  page_limit = asked.terms.page_limit;
+  nonce = asked.terms.nonce;
+}
 
 -- what the report of a run is of, as it was asked for: of this program and this input
 abbrev pub report_terms_of : RunAsked → Program → List ℕ → ReportTerms

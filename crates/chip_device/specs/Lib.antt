@@ -4,3 +4,4 @@ pub mod Printed
 pub mod Generated
 pub mod Traced
 pub mod Judged
+pub mod Paired

@@ -9,6 +9,7 @@ ghost use Rattle.bus_model.specs.BusHistory.{new_history};
 ghost use Rattle.chip_run.specs.Run.{KeepsAccesses, RunsProtected};
 ghost use Rattle.chip_words.specs.Words.{run_asked};
 ghost use Rattle.chip_device.specs.Buses.{IsBusOf, WentOver, run_history};
+ghost use Rattle.chip_device.specs.Device as spec;
 ghost use Rattle.chip_device.specs.Device.{terms_of};
 
 use crate::run_bus::RunBus;
@@ -80,24 +81,39 @@ pub(crate) fn run_over<B: Bus, O: Sink>(
 
     ensures faults { (O.state out.old).faults ≤ (O.state out.new).faults }
 {
-    let keys = derive(&asked.terms.device_key);
-    let setup = Setup {
-        geometry: asked.execution.file.geometry,
-        keys,
-        budget: asked.execution.steps,
-        page_limit: asked.terms.page_limit,
-        nonce: asked.terms.nonce,
-    };
+    let setup = setup_of(asked);
     match asked.terms.tags {
         Tags::Hmac => run(
             alloc,
             image,
             input,
             &setup,
-            HmacTagger::new(&keys),
+            HmacTagger::new(&setup.keys),
             bus,
             out,
         ),
-        Tags::Xor => run(alloc, image, input, &setup, XorTagger::new(&keys), bus, out),
+        Tags::Xor => run(
+            alloc,
+            image,
+            input,
+            &setup,
+            XorTagger::new(&setup.keys),
+            bus,
+            out,
+        ),
+    }
+}
+
+// What a run is given as it is asked for, beside its program, its input and its bus.
+pub(crate) fn setup_of(asked: &ProtectedRun<'_>) -> Setup
+    ensures { result ≡ spec.setup_of (run_asked asked.now) }
+{
+    let keys = derive(&asked.terms.device_key);
+    Setup {
+        geometry: asked.execution.file.geometry,
+        keys,
+        budget: asked.execution.steps,
+        page_limit: asked.terms.page_limit,
+        nonce: asked.terms.nonce,
     }
 }
