@@ -41,6 +41,7 @@ gives_asked o = record {
   bench = requested.bench o;
   trace = requested.trace o;
   judge = requested.judge o;
+  pair = requested.pair o;
 }
 
 pub gives_due : {request : Result Asked WordsFault} {old new : World} {answer : Done} → Outcome request old new answer → GivesDue request old new answer
@@ -52,4 +53,5 @@ gives_due o = record {
   whole_bench = wholes.whole_bench o;
   whole_trace = wholes.whole_trace o;
   whole_judgement = wholes.whole_judgement o;
+  whole_pair = wholes.whole_pair o;
 }

@@ -6,20 +6,21 @@ use Rattle.sec_base.specs.Files.{FilesState}
 use Rattle.sec_base.specs.Sink.{IsWritten, SinkState}
 use Rattle.sec_base.specs.declared.image.Image.{Image}
 use Rattle.bus_trace.specs.declared.trace.Trace.{Trace}
-use Rattle.chip_words.specs.Request.{Asked, FileAsked, JudgeAsked, RunAsked, WordsFault, to_judge, to_run, to_trace}
+use Rattle.chip_words.specs.Request.{Asked, FileAsked, JudgeAsked, PairAsked, RunAsked, WordsFault, to_judge, to_pair, to_run, to_trace}
 use Rattle.sec_base.specs.Program.{IsImageOf, Program}
 use Rattle.chip_words.specs.Words.{Explains}
 use Rattle.chip_words.specs.declared.fault.WordsError.{WordsError}
 use Rattle.chip_words.specs.declared.fault.WordsError.TheVariants.{Usage as WordsUntaken, WrongValue as WordsWrongValue, NoMemory as words_no_memory}
-use Rattle.chip_files.specs.Needs.{Need, AreAccepted, judge_needs, needs_of, program_need, run_needs}
+use Rattle.chip_files.specs.Needs.{Need, AreAccepted, judge_needs, needs_of, pair_needs, program_need, run_needs}
 use Rattle.chip_files.specs.Causes.{Asks, RunsOut}
 use Rattle.chip_files.specs.Stop.{words_stop_of}
-use Rattle.chip_files.specs.Taken.{IsProgram, ReadsJudged, ReadsRun}
+use Rattle.chip_files.specs.Taken.{IsProgram, ReadsJudged, ReadsPair, ReadsRun}
 use Rattle.chip_main.specs.Course.{CameAbout, stopped_course}
 use Rattle.chip_main.specs.Requests.{Writes}
 use Rattle.chip_main.specs.Status.{Telling}
 use Rattle.chip_files.proofs.Accepted.{run_accepted}
 use Rattle.chip_files.proofs.Judged.{judged_accepted}
+use Rattle.chip_files.proofs.Paired.{pair_accepted}
 
 -- all files were read, and then there was no memory
 ran_out : (needs : List Need) (files files' : FilesState) → AreAccepted files needs → Asks needs files files' → RunsOut needs files files'
@@ -44,6 +45,11 @@ traced_without_memory asked files files' program script input reads =
 pub judged_without_memory : (judge : JudgeAsked) (files files' : FilesState) (program : Program) (input : List ℕ) (trace : Trace) → ReadsJudged judge files files' program input trace → RunsOut (needs_of (Ok (to_judge judge))) files files'
 judged_without_memory judge files files' program input trace reads =
     ran_out (judge_needs judge) files files' (judged_accepted judge files files' program input trace reads) reads.asked
+
+pub paired_without_memory : (pair : PairAsked) (files files' : FilesState) (first second : Program) (order : List ℕ) (script second_script : Option (List ScriptLine)) →
+    ReadsPair pair files files' first second order script second_script → RunsOut (needs_of (Ok (to_pair pair))) files files'
+paired_without_memory pair files files' first second order script second_script reads =
+    ran_out (pair_needs pair) files files' (pair_accepted pair files files' first second order script second_script reads) reads.asked
 
 -- nothing was read yet
 pub came_unread : (request : Result Asked WordsFault) (files : FilesState) → RunsOut (needs_of request) files files

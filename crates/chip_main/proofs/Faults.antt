@@ -1,5 +1,5 @@
 -- A result comes only where no count of faults rose.
-use Rattle.std.proofs.Common.{◌≡◌, ◌≢◌, ℕ, List, Option, Some, None, Result, Ok, Err, OnOk, refl, subst}
+use Rattle.std.proofs.Common.{◌≡◌, ◌≢◌, inl, inr, ℕ, List, Option, Some, None, Result, Ok, Err, OnOk, refl, subst}
 use Rattle.sec_base.specs.Sink.{SinkState}
 use Rattle.sec_base.specs.declared.ending.Ending.{Ending}
 use Rattle.sec_base.specs.declared.ending.Ending.TheVariants.{WriteFault, NoMemory as memory_ended}
@@ -10,17 +10,18 @@ use Rattle.bus_model.specs.BusHistory.{BusHistory}
 use Rattle.chip_run.specs.Run.{RunsProtected, Terms}
 use Rattle.chip_run.specs.declared.RunRecord.{RunRecord}
 use Rattle.chip_files.specs.declared.refusal.Refusal.{Refusal}
-use Rattle.chip_files.specs.declared.refusal.Refusal.TheVariants.{Usage, WrongValue, Unread, TooLong, Elf, Asm, Script, Report, Trace as trace_refused}
+use Rattle.chip_files.specs.declared.refusal.Refusal.TheVariants.{Usage, WrongValue, Unread, TooLong, Elf, Asm, Script, Report, Trace as trace_refused, Order as order_refused}
 use Rattle.chip_files.specs.declared.stop.Stop.{Stop}
 use Rattle.chip_files.specs.declared.stop.Stop.TheVariants.{Refused as stop_refused, NoMemory as stop_no_memory}
 use Rattle.chip_device.specs.declared.run_bus.RunBus.{RunBus}
 use Rattle.chip_device.specs.Generated.{RunsGenerated}
 use Rattle.chip_main.specs.declared.Done.{Done}
 use Rattle.chip_main.specs.declared.course.Course.{Course}
-use Rattle.chip_main.specs.declared.course.Course.TheVariants.{Refused, NoMemory, Ran, RanPlain, Written, OtherTag, RanGenerated, RanTraced, Judged}
+use Rattle.chip_main.specs.declared.course.Course.TheVariants.{Refused, NoMemory, Ran, RanPlain, Written, OtherTag, RanGenerated, RanTraced, Judged, RanPair}
 use Rattle.chip_main.specs.Course.{Outcome, TellsCourse, course_status, status_of, stopped_course}
-use Rattle.chip_main.specs.Status.{IsResult, Telling, code_of, ending_status, evidence_status, refusal_status, run_status, status_with, text_status, told_status, untold_ending_status, untold_told_status}
+use Rattle.chip_main.specs.Status.{IsResult, Telling, code_of, ending_status, evidence_status, refusal_status, run_status, status_with, text_status, told_pair_status, told_status, untold_ending_status, untold_pair_status, untold_told_pair_status, untold_told_status}
 use Rattle.chip_main.specs.World.{World}
+use Rattle.chip_main.proofs.Outcomes.{untold_pair_cases}
 
 -- no write failed in a run whose status is a result
 
@@ -50,6 +51,18 @@ untold_told_stops run (Ok _) is = untold_stops run.ending is
 untold_told_stops run (Err Failed) is = untold_stops run.ending is
 untold_told_stops run (Err no_memory) is = is.4 refl
 
+-- and the same of two programs
+untold_pair_stops : (first second : RunRecord) → ¬ IsResult (code_of (untold_pair_status first second))
+untold_pair_stops first second is = elim (untold_pair_cases first.ending second.ending) [
+  | inl untold ↦ is.3 untold.0
+  | inr gone ↦ is.4 gone
+]
+
+untold_told_pair_stops : (first second : RunRecord) (telling : Telling) → ¬ IsResult (code_of (untold_told_pair_status first second telling))
+untold_told_pair_stops first second (Ok _) is = untold_pair_stops first second is
+untold_told_pair_stops first second (Err Failed) is = untold_pair_stops first second is
+untold_told_pair_stops first second (Err no_memory) is = is.4 refl
+
 -- nor is a refusal
 refusal_stops : (refusal : Refusal) → ¬ IsResult (code_of (refusal_status refusal))
 refusal_stops (Usage text) is = is.0 refl
@@ -61,6 +74,7 @@ refusal_stops (Asm line fault) is = is.1 refl
 refusal_stops (Script line fault) is = is.1 refl
 refusal_stops (Report fault) is = is.1 refl
 refusal_stops (trace_refused fault) is = is.1 refl
+refusal_stops (order_refused error) is = is.1 refl
 
 pub stop_stops : (stop : Stop) → ¬ IsResult (code_of (course_status (stopped_course stop)))
 stop_stops (stop_refused refusal) is = refusal_stops refusal is
@@ -76,6 +90,11 @@ result_told : {P : Type 0} (run : RunRecord) (telling : Telling) → IsResult (c
 result_told run (Ok done) is p = p
 result_told run (Err Failed) is p = absurd (untold_stops run.ending is)
 result_told run (Err no_memory) is p = absurd (is.4 refl)
+
+pub result_paired : {P : Type 0} (first second : RunRecord) (telling : Telling) → IsResult (code_of (told_pair_status first second telling)) → OnOk telling P → P
+result_paired first second (Ok done) is p = p
+result_paired first second (Err Failed) is p = absurd (untold_pair_stops first second is)
+result_paired first second (Err no_memory) is p = absurd (is.4 refl)
 
 pub result_summed : {P : Type 0} {number : ℕ} {printed : List ℕ} {run : RunRecord} {bus : RunBus} → RunsGenerated number printed run bus → (telling : Telling) →
     IsResult (code_of (told_status run telling)) → OnOk telling P → P
@@ -99,6 +118,7 @@ none_rose OtherTag (Err Failed) note note' is taken noted tells = absurd (is.3 r
 none_rose (RanGenerated run bus written) (Err Failed) note note' is taken noted tells = let told = tells.1 in absurd (cc)
 none_rose (RanTraced run bus written) (Err Failed) note note' is taken noted tells = absurd (untold_told_stops run written is)
 none_rose (Judged difference written) (Err Failed) note note' is taken noted tells = let told = tells.1 in absurd (cc)
+none_rose (RanPair run bus second written) (Err Failed) note note' is taken noted tells = absurd (untold_told_pair_stops run second.run written is)
 
 pub faultless : {request : Result Asked WordsFault} {old new : World} {done : Done} → Outcome request old new done → IsResult done.status →
     (new.files.faults ≡ old.files.faults) × (new.out.faults ≡ old.out.faults) × (new.note.faults ≡ old.note.faults)

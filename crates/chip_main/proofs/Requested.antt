@@ -8,30 +8,32 @@ use Rattle.bus_trace.specs.declared.verdict.Difference.{Difference}
 use Rattle.plain_machine.specs.declared.PlainRecord.{PlainRecord}
 use Rattle.chip_run.specs.declared.RunRecord.{RunRecord}
 use Rattle.chip_words.specs.declared.fault.ValueFault.{ValueFault}
-use Rattle.chip_words.specs.Request.{Asked, ExecutionAsked, FileAsked, JudgeAsked, ReportAsked, RunAsked, WordsFault, to_assemble, to_bench, to_disassemble, to_judge, to_measure, to_run, to_run_plain, to_trace, to_verify}
+use Rattle.chip_words.specs.Request.{Asked, ExecutionAsked, FileAsked, JudgeAsked, PairAsked, ReportAsked, RunAsked, WordsFault, to_assemble, to_bench, to_disassemble, to_judge, to_measure, to_pair, to_run, to_run_plain, to_trace, to_verify}
 use Rattle.chip_files.specs.declared.refusal.Refusal.{Refusal}
-use Rattle.chip_files.specs.declared.refusal.Refusal.TheVariants.{Usage, WrongValue, Unread, TooLong, Elf, Asm, Script, Report, Trace as trace_refused}
+use Rattle.chip_files.specs.declared.refusal.Refusal.TheVariants.{Usage, WrongValue, Unread, TooLong, Elf, Asm, Script, Report, Trace as trace_refused, Order as order_refused}
 use Rattle.chip_files.specs.Taken.{ReadsReport}
 use Rattle.chip_device.specs.declared.run_bus.RunBus.{RunBus}
 use Rattle.chip_main.specs.declared.course.Course.{Course}
-use Rattle.chip_main.specs.declared.course.Course.TheVariants.{Refused, NoMemory, Ran, RanPlain, Written, OtherTag, RanGenerated, RanTraced, Judged}
+use Rattle.chip_main.specs.declared.course.Course.TheVariants.{Refused, NoMemory, Ran, RanPlain, Written, OtherTag, RanGenerated, RanTraced, Judged, RanPair}
 use Rattle.chip_main.specs.declared.Done.{Done}
+use Rattle.chip_main.specs.declared.second.Second.{Second}
 use Rattle.chip_main.specs.World.{World}
 use Rattle.chip_words.specs.Texts.{tag_differs_line}
 use Rattle.chip_files.specs.Needs.{Need, AreAccepted, HasTold, IsAccepted, IsUnfit, asked_needs, names, needs_of, program_need}
 use Rattle.chip_files.specs.Causes.{Asks, AsksFront, AsksNothing, IsRefused, RunsOut, Stops}
-use Rattle.chip_device.specs.Buses.{LiesByScript, lies_of}
+use Rattle.chip_device.specs.Buses.{LiesByScript, lies_of, run_history}
 use Rattle.chip_main.specs.Texts.{elf_file, listing, measurement_line}
-use Rattle.chip_main.specs.Requests.{JudgesRequest, OtherTagRequest, PlainlyRunsRequest, RunsRequest, TracesRequest, Writes, WritesRequest}
+use Rattle.chip_main.specs.Requests.{JudgesRequest, OtherTagRequest, PairsRequest, PlainlyRunsRequest, RunsRequest, TracesRequest, Writes, WritesRequest}
 use Rattle.chip_main.specs.Status.{IsOneOf, code_of, Telling}
 use Rattle.chip_main.specs.declared.status.Status.{Status}
 use Rattle.chip_main.specs.declared.status.Status.TheVariants as status
-use Rattle.chip_main.specs.Answer.{AreBothAnd, Delivers, DeliversReport, DeliversSummary, DeliversVerdict, GivesPlainRun, GivesReport, GivesRun, GivesSummary, GivesText, GivesTraced, GivesVerdict, LacksMemory, PlainlyRan, RanAndTold, TellsOtherTag, TellsPlain, TellsRefusal, TellsResult, TracedAndTold, Undone, undone_statuses}
-use Rattle.chip_main.specs.Course.{CameAbout, Outcome, TellsCourse, course_bus, course_run, status_of}
+use Rattle.chip_main.specs.Answer.{AreBothAnd, ArePairAnd, Delivers, DeliversReport, DeliversSummary, DeliversVerdict, GivesPair, GivesPlainRun, GivesReport, GivesRun, GivesSummary, GivesText, GivesTraced, GivesVerdict, LacksMemory, PairedAndTold, PlainlyRan, RanAndTold, TellsOtherTag, TellsPair, TellsPlain, TellsRefusal, TellsResult, TracedAndTold, Undone, undone_statuses}
+use Rattle.chip_main.specs.Course.{CameAbout, Outcome, TellsCourse, course_bus, course_run, course_second, status_of}
 use Rattle.chip_files.proofs.Accepted.{execution_accepted, program_accepted, run_accepted}
 use Rattle.chip_files.proofs.Judged.{judged_accepted}
+use Rattle.chip_files.proofs.Paired.{pair_accepted}
 use Rattle.chip_files.proofs.Takings.{asks_more}
-use Rattle.chip_main.proofs.Outcomes.{benched, judged, told_other_tag, told_plain, told_run, told_traced, traced}
+use Rattle.chip_main.proofs.Outcomes.{benched, judged, paired, told_other_tag, told_pair, told_plain, told_run, told_traced, traced}
 use Rattle.chip_main.proofs.RunStatuses.{tampers_by_script}
 
 -- ---- where something was done, all files were taken
@@ -55,6 +57,7 @@ ran_taken (Ok (to_verify report)) files files' out out' run bus came = absurd ca
 ran_taken (Ok (to_bench number)) files files' out out' run bus came = absurd came
 ran_taken (Ok (to_trace asked)) files files' out out' run bus came = absurd came
 ran_taken (Ok (to_judge judge)) files files' out out' run bus came = absurd came
+ran_taken (Ok (to_pair pair)) files files' out out' run bus came = absurd came
 
 plainly_ran_taken : (request : Result Asked WordsFault) (files files' : FilesState) (out out' : SinkState) (run : PlainRecord) → PlainlyRunsRequest request files files' out out' run → AllTaken request files files'
 plainly_ran_taken (Err fault) files files' out out' run came = absurd came
@@ -68,6 +71,7 @@ plainly_ran_taken (Ok (to_verify report)) files files' out out' run came = absur
 plainly_ran_taken (Ok (to_bench number)) files files' out out' run came = absurd came
 plainly_ran_taken (Ok (to_trace asked)) files files' out out' run came = absurd came
 plainly_ran_taken (Ok (to_judge judge)) files files' out out' run came = absurd came
+plainly_ran_taken (Ok (to_pair pair)) files files' out out' run came = absurd came
 
 -- the one file of a request for a text
 text_taken : (asked : Asked) (file : FileAsked) (text : Image → List ℕ) (files files' : FilesState) (out out' : SinkState) (telling : Telling) → asked_needs asked ≡ program_need file ∷ [] → Writes file text files files' out out' telling →
@@ -91,6 +95,7 @@ written_taken (Ok (to_verify report)) files files' out out' telling came = repor
 written_taken (Ok (to_bench number)) files files' out out' telling came = absurd came
 written_taken (Ok (to_trace asked)) files files' out out' telling came = absurd came
 written_taken (Ok (to_judge judge)) files files' out out' telling came = absurd came
+written_taken (Ok (to_pair pair)) files files' out out' telling came = absurd came
 
 other_tag_taken : (request : Result Asked WordsFault) (files files' : FilesState) → OtherTagRequest request files files' → AllTaken request files files'
 other_tag_taken (Err fault) files files' came = absurd came
@@ -103,6 +108,7 @@ other_tag_taken (Ok (to_verify report)) files files' came = report_taken report 
 other_tag_taken (Ok (to_bench number)) files files' came = absurd came
 other_tag_taken (Ok (to_trace asked)) files files' came = absurd came
 other_tag_taken (Ok (to_judge judge)) files files' came = absurd came
+other_tag_taken (Ok (to_pair pair)) files files' came = absurd came
 
 traced_taken : (request : Result Asked WordsFault) (files files' : FilesState) (out out' : SinkState) (run : RunRecord) (bus : RunBus) (telling : Telling) → TracesRequest request files files' out out' run bus telling → AllTaken request files files'
 traced_taken request files files' out out' run bus telling came =
@@ -117,6 +123,14 @@ judged_taken request files files' out out' difference telling came =
     let judges = found.2 in
     subst (λ (r : Result Asked WordsFault). AllTaken r files files') (sym found.1)
     (all_taken (to_judge found.0) files files' judges.reads.asked (judged_accepted found.0 files files' judges.program judges.input judges.trace judges.reads))
+
+paired_taken : (request : Result Asked WordsFault) (files files' : FilesState) (out out' : SinkState) (run : RunRecord) (bus : RunBus) (second : Second) (telling : Telling) → PairsRequest request files files' out out' run bus second telling → AllTaken request files files'
+paired_taken request files files' out out' run bus second telling came =
+    let found = paired request files files' out out' run bus second telling came in
+    let pairs = found.2 in
+    subst (λ (r : Result Asked WordsFault). AllTaken r files files') (sym found.1)
+    (all_taken (to_pair found.0) files files' pairs.reads.asked
+    (pair_accepted found.0 files files' pairs.program pairs.second_program pairs.order pairs.script pairs.second_script pairs.reads))
 
 -- ---- what was asked for
 
@@ -143,6 +157,7 @@ front (Refused (Asm line fault)) request files files' out out' came = front_stop
 front (Refused (Script line fault)) request files files' out out' came = front_stops (Script line fault) (needs_of request) files files' came.0
 front (Refused (Report fault)) request files files' out out' came = front_stops (Report fault) (needs_of request) files files' came.0
 front (Refused (trace_refused fault)) request files files' out out' came = front_stops (trace_refused fault) (needs_of request) files files' came.0
+front (Refused (order_refused error)) request files files' out out' came = front_stops (order_refused error) (needs_of request) files files' came.0
 front NoMemory request files files' out out' came =
     (came.0.before ++ came.0.tried, (came.0.after, came.0.order), came.0.asked)
 front (Ran run bus) request files files' out out' came = front_all (needs_of request) files files' (ran_taken request files files' out out' run bus came).asked
@@ -154,6 +169,8 @@ front (RanGenerated run bus telling) request files files' out out' came =
 front (RanTraced run bus telling) request files files' out out' came = front_all (needs_of request) files files' (traced_taken request files files' out out' run bus telling came).asked
 front (Judged difference telling) request files files' out out' came =
     front_all (needs_of request) files files' (judged_taken request files files' out out' difference telling came).asked
+front (RanPair run bus second telling) request files files' out out' came =
+    front_all (needs_of request) files files' (paired_taken request files files' out out' run bus second telling came).asked
 
 pub asks_front : {request : Result Asked WordsFault} {old new : World} {done : Done} → Outcome request old new done → AsksFront (needs_of request) old.files new.files
 asks_front {request} {old} {new} o = front o.course request old.files new.files old.out new.out o.came
@@ -215,6 +232,7 @@ refusal_unrun (Asm line fault) (Ok _) asked files files' cause = (0, omega arith
 refusal_unrun (Script line fault) (Ok _) asked files files' cause = (0, omega arith, refl)
 refusal_unrun (Report fault) (Ok _) asked files files' cause = (0, omega arith, refl)
 refusal_unrun (trace_refused fault) (Ok _) asked files files' cause = (0, omega arith, refl)
+refusal_unrun (order_refused error) (Ok _) asked files files' cause = (0, omega arith, refl)
 refusal_unrun Unread (Err Failed) asked files files' cause = (1, omega arith, refl)
 refusal_unrun TooLong (Err Failed) asked files files' cause = (0, omega arith, refl)
 refusal_unrun (Elf fault) (Err Failed) asked files files' cause = (0, omega arith, refl)
@@ -222,6 +240,7 @@ refusal_unrun (Asm line fault) (Err Failed) asked files files' cause = (0, omega
 refusal_unrun (Script line fault) (Err Failed) asked files files' cause = (0, omega arith, refl)
 refusal_unrun (Report fault) (Err Failed) asked files files' cause = (0, omega arith, refl)
 refusal_unrun (trace_refused fault) (Err Failed) asked files files' cause = (0, omega arith, refl)
+refusal_unrun (order_refused error) (Err Failed) asked files files' cause = (0, omega arith, refl)
 
 no_memory_unrun : (telling : Telling) → IsOneOf unrun_statuses (code_of (status_of NoMemory telling))
 no_memory_unrun (Ok _) = (2, omega arith, refl)
@@ -239,6 +258,7 @@ refusal_listed (Err why) (Asm line fault) telling files files' cause = absurd (n
 refusal_listed (Err why) (Script line fault) telling files files' cause = absurd (nothing_stops (Script line fault) [] files files' refl cause)
 refusal_listed (Err why) (Report fault) telling files files' cause = absurd (nothing_stops (Report fault) [] files files' refl cause)
 refusal_listed (Err why) (trace_refused fault) telling files files' cause = absurd (nothing_stops (trace_refused fault) [] files files' refl cause)
+refusal_listed (Err why) (order_refused error) telling files files' cause = absurd (nothing_stops (order_refused error) [] files files' refl cause)
 
 lack_listed : (request : Result Asked WordsFault) (telling : Telling) → IsOneOf (undone_statuses request) (code_of (status_of NoMemory telling))
 lack_listed (Ok asked) telling = no_memory_unrun telling
@@ -268,6 +288,7 @@ IfUndone OtherTag P = Unit {0}
 IfUndone (RanGenerated run bus telling) P = Unit {0}
 IfUndone (RanTraced run bus telling) P = Unit {0}
 IfUndone (Judged difference telling) P = Unit {0}
+IfUndone (RanPair run bus second telling) P = Unit {0}
 
 undone_of : (course : Course) (telling : Telling) (request : Result Asked WordsFault) (old new : World) (done : Done) → CameAbout course request old.files new.files old.out new.out → TellsCourse course old.note new.note telling →
     done.status ≡ code_of (status_of course telling) → done.run ≡ course_run course → IfUndone course (Undone request old new done)
@@ -290,6 +311,7 @@ undone_of OtherTag telling request old new done came tells status_is run_is = tt
 undone_of (RanGenerated run bus written) telling request old new done came tells status_is run_is = tt
 undone_of (RanTraced run bus written) telling request old new done came tells status_is run_is = tt
 undone_of (Judged difference written) telling request old new done came tells status_is run_is = tt
+undone_of (RanPair run bus second written) telling request old new done came tells status_is run_is = tt
 
 -- the same for a request that is known
 undone : {request : Result Asked WordsFault} {old new : World} {done : Done} → (o : Outcome request old new done) → (is : Result Asked WordsFault) → request ≡ is → IfUndone o.course (Undone is old new done)
@@ -312,6 +334,7 @@ undone_without OtherTag why P files files' out out' came holds = absurd came.0
 undone_without (RanGenerated run bus telling) why P files files' out out' came holds = absurd came
 undone_without (RanTraced run bus telling) why P files files' out out' came holds = absurd came
 undone_without (Judged difference telling) why P files files' out out' came holds = absurd came
+undone_without (RanPair run bus second telling) why P files files' out out' came holds = absurd came
 
 pub none : {request : Result Asked WordsFault} {old new : World} {done : Done} → Outcome request old new done → (why : WordsFault) → request ≡ Err why → AsksNothing old.files new.files × Undone (Err why) old new done
 none {request} {old} {new} {done} o why is =
@@ -333,6 +356,7 @@ ran OtherTag telling asked P old new done came tells status_is lies_is by_script
 ran (RanGenerated run bus written) telling asked P old new done came tells status_is lies_is by_script holds = absurd came
 ran (RanTraced run bus written) telling asked P old new done came tells status_is lies_is by_script holds = absurd came
 ran (Judged difference written) telling asked P old new done came tells status_is lies_is by_script holds = absurd came
+ran (RanPair run bus second written) telling asked P old new done came tells status_is lies_is by_script holds = absurd came
 
 -- the run and the bus of the course are the answer's
 of_answer : {request : Result Asked WordsFault} {old new : World} {done : Done} → (o : Outcome request old new done) → (P : RunRecord → RunBus → Type 0) (Q : Type 0) → AreBothAnd (course_run o.course) (course_bus o.course) P ⊎ Q →
@@ -363,6 +387,7 @@ plainly_ran OtherTag telling execution P old new done came tells status_is run_i
 plainly_ran (RanGenerated run bus written) telling execution P old new done came tells status_is run_is holds = absurd came
 plainly_ran (RanTraced run bus written) telling execution P old new done came tells status_is run_is holds = absurd came
 plainly_ran (Judged difference written) telling execution P old new done came tells status_is run_is holds = absurd came
+plainly_ran (RanPair run bus second written) telling execution P old new done came tells status_is run_is holds = absurd came
 
 pub plain : {request : Result Asked WordsFault} {old new : World} {done : Done} → Outcome request old new done → (execution : ExecutionAsked) → request ≡ Ok (to_run_plain execution) → GivesPlainRun execution old new done
 plain {request} {old} {new} {done} o execution asks =
@@ -385,6 +410,7 @@ WritesOr OtherTag file text files files' out out' = ⊥
 WritesOr (RanGenerated run bus telling) file text files files' out out' = ⊥
 WritesOr (RanTraced run bus telling) file text files files' out out' = ⊥
 WritesOr (Judged difference telling) file text files files' out out' = ⊥
+WritesOr (RanPair run bus second telling) file text files files' out out' = ⊥
 
 delivered_or : (course : Course) (telling : Telling) (file : FileAsked) (text : Image → List ℕ) (P : Type 0) (old new : World) (done : Done) → WritesOr course file text old.files new.files old.out new.out →
     TellsCourse course old.note new.note telling → done.status ≡ code_of (status_of course telling) → done.run ≡ course_run course → IfUndone course P → Delivers file text old new done ⊎ P
@@ -398,6 +424,7 @@ delivered_or OtherTag telling file text P old new done writes tells status_is ru
 delivered_or (RanGenerated run bus written) telling file text P old new done writes tells status_is run_is holds = absurd writes
 delivered_or (RanTraced run bus written) telling file text P old new done writes tells status_is run_is holds = absurd writes
 delivered_or (Judged difference written) telling file text P old new done writes tells status_is run_is holds = absurd writes
+delivered_or (RanPair run bus second written) telling file text P old new done writes tells status_is run_is holds = absurd writes
 
 gives_text : {request : Result Asked WordsFault} {old new : World} {done : Done} → (o : Outcome request old new done) → (asked : Asked) (file : FileAsked) (text : Image → List ℕ) → request ≡ Ok asked →
     WritesOr o.course file text old.files new.files old.out new.out → GivesText asked file text old new done
@@ -415,6 +442,7 @@ asm_came OtherTag file files files' out out' came = came.0
 asm_came (RanGenerated run bus telling) file files files' out out' came = came
 asm_came (RanTraced run bus telling) file files files' out out' came = came
 asm_came (Judged difference telling) file files files' out out' came = came
+asm_came (RanPair run bus second telling) file files files' out out' came = came
 
 pub dis_came : (course : Course) (file : FileAsked) (files files' : FilesState) (out out' : SinkState) → CameAbout course (Ok (to_disassemble file)) files files' out out' → WritesOr course file listing files files' out out'
 dis_came (Refused refusal) file files files' out out' came = tt
@@ -426,6 +454,7 @@ dis_came OtherTag file files files' out out' came = came.0
 dis_came (RanGenerated run bus telling) file files files' out out' came = came
 dis_came (RanTraced run bus telling) file files files' out out' came = came
 dis_came (Judged difference telling) file files files' out out' came = came
+dis_came (RanPair run bus second telling) file files files' out out' came = came
 
 pub measure_came : (course : Course) (file : FileAsked) (files files' : FilesState) (out out' : SinkState) → CameAbout course (Ok (to_measure file)) files files' out out' → WritesOr course file measurement_line files files' out out'
 measure_came (Refused refusal) file files files' out out' came = tt
@@ -437,6 +466,7 @@ measure_came OtherTag file files files' out out' came = came.0
 measure_came (RanGenerated run bus telling) file files files' out out' came = came
 measure_came (RanTraced run bus telling) file files files' out out' came = came
 measure_came (Judged difference telling) file files files' out out' came = came
+measure_came (RanPair run bus second telling) file files files' out out' came = came
 
 pub asm : {request : Result Asked WordsFault} {old new : World} {done : Done} → Outcome request old new done → (file : FileAsked) → request ≡ Ok (to_assemble file) → GivesText (to_assemble file) file elf_file old new done
 asm {old = old} {new = new} o file asks =
@@ -474,6 +504,7 @@ verified OtherTag telling asked P old new done came tells status_is run_is holds
 verified (RanGenerated run bus written) telling asked P old new done came tells status_is run_is holds = absurd came
 verified (RanTraced run bus written) telling asked P old new done came tells status_is run_is holds = absurd came
 verified (Judged difference written) telling asked P old new done came tells status_is run_is holds = absurd came
+verified (RanPair run bus second written) telling asked P old new done came tells status_is run_is holds = absurd came
 
 pub verify : {request : Result Asked WordsFault} {old new : World} {done : Done} → Outcome request old new done → (asked : ReportAsked) → request ≡ Ok (to_verify asked) → GivesReport asked old new done
 verify {request} {old} {new} {done} o asked asks =
@@ -497,6 +528,7 @@ summarized (RanGenerated run bus written) telling number P old new done came tel
 })
 summarized (RanTraced run bus written) telling number P old new done came tells status_is holds = absurd came
 summarized (Judged difference written) telling number P old new done came tells status_is holds = absurd came
+summarized (RanPair run bus second written) telling number P old new done came tells status_is holds = absurd came
 
 pub bench : {request : Result Asked WordsFault} {old new : World} {done : Done} → Outcome request old new done → (number : ℕ) → request ≡ Ok (to_bench number) → GivesSummary number old new done
 bench {request} {old} {new} {done} o number asks =
@@ -522,6 +554,7 @@ ran_traced (RanTraced run bus written) telling asked P old new done came tells s
   tells = rw (status_is, lies_is) (told_traced run bus written telling old.note new.note tells);
 })
 ran_traced (Judged difference written) telling asked P old new done came tells status_is lies_is by_script holds = absurd came
+ran_traced (RanPair run bus second written) telling asked P old new done came tells status_is lies_is by_script holds = absurd came
 
 pub trace : {request : Result Asked WordsFault} {old new : World} {done : Done} → Outcome request old new done → (asked : RunAsked) → request ≡ Ok (to_trace asked) → GivesTraced asked old new done
 trace {request} {old} {new} {done} o asked asks =
@@ -548,11 +581,47 @@ delivered_verdict (Judged difference written) telling judge P old new done came 
   no_run = run_is;
   silent = tells.0;
 })
+delivered_verdict (RanPair run bus second written) telling judge P old new done came tells status_is run_is holds = absurd came
 
 pub judge : {request : Result Asked WordsFault} {old new : World} {done : Done} → Outcome request old new done → (asked : JudgeAsked) → request ≡ Ok (to_judge asked) → GivesVerdict asked old new done
 judge {request} {old} {new} {done} o asked asks =
     delivered_verdict o.course o.told asked (Undone (Ok (to_judge asked)) old new done) old new done
     (came_as o (Ok (to_judge asked)) asks) o.tells o.status o.run (undone o (Ok (to_judge asked)) asks)
+
+-- two programs shared the core
+ran_pair : (course : Course) (telling : Telling) (asked : PairAsked) (P : Type 0) (old new : World) (done : Done) → CameAbout course (Ok (to_pair asked)) old.files new.files old.out new.out → TellsCourse course old.note new.note telling →
+    done.status ≡ code_of (status_of course telling) → done.lies ≡ lies_of (course_bus course) → IfSome (course_bus course) LiesByScript → IfUndone course P →
+    ArePairAnd (course_run course) (course_bus course) (course_second course) (PairedAndTold asked old new done) ⊎ P
+ran_pair (Refused refusal) telling asked P old new done came tells status_is lies_is by_script holds = inr holds
+ran_pair NoMemory telling asked P old new done came tells status_is lies_is by_script holds = inr holds
+ran_pair (Ran run bus) telling asked P old new done came tells status_is lies_is by_script holds = absurd came
+ran_pair (RanPlain run) telling asked P old new done came tells status_is lies_is by_script holds = absurd came
+ran_pair (Written written) telling asked P old new done came tells status_is lies_is by_script holds = absurd came
+ran_pair OtherTag telling asked P old new done came tells status_is lies_is by_script holds = absurd came.0
+ran_pair (RanGenerated run bus written) telling asked P old new done came tells status_is lies_is by_script holds = absurd came
+ran_pair (RanTraced run bus written) telling asked P old new done came tells status_is lies_is by_script holds = absurd came
+ran_pair (Judged difference written) telling asked P old new done came tells status_is lies_is by_script holds = absurd came
+ran_pair (RanPair run bus second written) telling asked P old new done came tells status_is lies_is by_script holds = inl (record {
+  telling = written;
+  pairs = came;
+  by_script = tampers_by_script bus by_script came.runs.side.runs;
+  second_by_script = tampers_by_script second.bus came.second_by_script came.second_runs.side.runs;
+  tells = rw (status_is, lies_is) (told_pair run bus second written telling old.note new.note tells);
+})
+
+-- both runs and the first one's bus are the answer's
+of_pair_answer : {request : Result Asked WordsFault} {old new : World} {done : Done} → (o : Outcome request old new done) → (P : RunRecord → RunBus → Second → Type 0) (Q : Type 0) →
+    ArePairAnd (course_run o.course) (course_bus o.course) (course_second o.course) P ⊎ Q → ArePairAnd done.run done.bus done.second P ⊎ Q
+of_pair_answer {done = done} o P Q at =
+    subst (λ (s : Option Second). ArePairAnd done.run done.bus s P ⊎ Q) (sym o.second)
+    (subst (λ (b : Option RunBus). ArePairAnd done.run b (course_second o.course) P ⊎ Q) (sym o.bus)
+    (subst (λ (r : Option RunRecord). ArePairAnd r (course_bus o.course) (course_second o.course) P ⊎ Q) (sym o.run) at))
+
+pub pair : {request : Result Asked WordsFault} {old new : World} {done : Done} → Outcome request old new done → (asked : PairAsked) → request ≡ Ok (to_pair asked) → GivesPair asked old new done
+pair {request} {old} {new} {done} o asked asks =
+    of_pair_answer o (PairedAndTold asked old new done) (Undone (Ok (to_pair asked)) old new done)
+    (ran_pair o.course o.told asked (Undone (Ok (to_pair asked)) old new done) old new done
+    (came_as o (Ok (to_pair asked)) asks) o.tells o.status o.lies o.by_script (undone o (Ok (to_pair asked)) asks))
 
 -- a generated program needs no file, so nothing is refused
 pub unrefused_bench : (refusal : Refusal) (number : ℕ) (files files' : FilesState) → ¬ IsRefused refusal (Ok (to_bench number)) files files'
@@ -565,6 +634,7 @@ unrefused_bench (Asm line fault) number files files' cause = nothing_stops (Asm 
 unrefused_bench (Script line fault) number files files' cause = nothing_stops (Script line fault) [] files files' refl cause
 unrefused_bench (Report fault) number files files' cause = nothing_stops (Report fault) [] files files' refl cause
 unrefused_bench (trace_refused fault) number files files' cause = nothing_stops (trace_refused fault) [] files files' refl cause
+unrefused_bench (order_refused error) number files files' cause = nothing_stops (order_refused error) [] files files' refl cause
 
 -- ---- files that are to be refused
 
@@ -603,6 +673,7 @@ refusal_unfit (Asm line fault) (Ok _) before need after request files files' ord
 refusal_unfit (Script line fault) (Ok _) before need after request files files' order cause = (0, omega arith, refl)
 refusal_unfit (Report fault) (Ok _) before need after request files files' order cause = (0, omega arith, refl)
 refusal_unfit (trace_refused fault) (Ok _) before need after request files files' order cause = (0, omega arith, refl)
+refusal_unfit (order_refused error) (Ok _) before need after request files files' order cause = (0, omega arith, refl)
 refusal_unfit (Usage text) (Err Failed) before need after request files files' order cause = absurd (no_place before need after (sym (ap needs_of cause.0) ∙ order))
 refusal_unfit (WrongValue fault) (Err Failed) before need after request files files' order cause = absurd (no_place before need after (sym (ap needs_of cause.0) ∙ order))
 refusal_unfit Unread (Err Failed) before need after request files files' order cause = (1, omega arith, refl)
@@ -612,6 +683,7 @@ refusal_unfit (Asm line fault) (Err Failed) before need after request files file
 refusal_unfit (Script line fault) (Err Failed) before need after request files files' order cause = (0, omega arith, refl)
 refusal_unfit (Report fault) (Err Failed) before need after request files files' order cause = (0, omega arith, refl)
 refusal_unfit (trace_refused fault) (Err Failed) before need after request files files' order cause = (0, omega arith, refl)
+refusal_unfit (order_refused error) (Err Failed) before need after request files files' order cause = (0, omega arith, refl)
 
 no_memory_unfit : (telling : Telling) → IsOneOf unrun_statuses (code_of (status_of NoMemory telling))
 no_memory_unfit (Ok _) = (2, omega arith, refl)
@@ -636,6 +708,8 @@ unfit_listed (RanTraced run bus written) telling before need after bytes request
     absurd (untaken before need after bytes request files files' order content unfit (traced_taken request files files' out out' run bus written came))
 unfit_listed (Judged difference written) telling before need after bytes request files files' out out' order content unfit came =
     absurd (untaken before need after bytes request files files' order content unfit (judged_taken request files files' out out' difference written came))
+unfit_listed (RanPair run bus second written) telling before need after bytes request files files' out out' order content unfit came =
+    absurd (untaken before need after bytes request files files' order content unfit (paired_taken request files files' out out' run bus second written came))
 
 pub unfit : {request : Result Asked WordsFault} {old new : World} {done : Done} → Outcome request old new done → (before after : List Need) (need : Need) (bytes : List ℕ) →
     needs_of request ≡ before ++ need ∷ after → HasTold old.files.held need.name bytes → IsUnfit need bytes → IsOneOf unrun_statuses done.status

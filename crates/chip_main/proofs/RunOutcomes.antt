@@ -12,29 +12,33 @@ use Rattle.bus_trace.specs.declared.verdict.Difference.{Difference}
 use Rattle.plain_machine.specs.declared.PlainRecord.{PlainRecord}
 use Rattle.sec_base.specs.Sink.{IsWritten}
 use Rattle.chip_run.specs.declared.RunRecord.{RunRecord}
-use Rattle.chip_words.specs.Request.{Asked, ExecutionAsked, FileAsked, JudgeAsked, ReportAsked, RunAsked, WordsFault, to_assemble, to_bench, to_disassemble, to_judge, to_measure, to_run, to_run_plain, to_trace, to_verify}
+use Rattle.chip_words.specs.Defaults.{side_run}
+use Rattle.chip_words.specs.Request.{Asked, ExecutionAsked, FileAsked, JudgeAsked, PairAsked, ReportAsked, RunAsked, WordsFault, to_assemble, to_bench, to_disassemble, to_judge, to_measure, to_pair, to_run, to_run_plain, to_trace, to_verify}
 use Rattle.chip_files.specs.declared.refusal.Refusal.{Refusal}
-use Rattle.chip_files.specs.declared.refusal.Refusal.TheVariants.{Usage, WrongValue, Unread, TooLong, Elf, Asm, Script, Report, Trace as trace_refused}
+use Rattle.chip_files.specs.declared.refusal.Refusal.TheVariants.{Usage, WrongValue, Unread, TooLong, Elf, Asm, Script, Report, Trace as trace_refused, Order as order_refused}
 use Rattle.chip_device.specs.declared.run_bus.RunBus.{RunBus}
 use Rattle.chip_main.specs.declared.course.Course.{Course}
-use Rattle.chip_main.specs.declared.course.Course.TheVariants.{Refused, NoMemory, Ran, RanPlain, Written, OtherTag, RanGenerated, RanTraced, Judged}
+use Rattle.chip_main.specs.declared.course.Course.TheVariants.{Refused, NoMemory, Ran, RanPlain, Written, OtherTag, RanGenerated, RanTraced, Judged, RanPair}
 use Rattle.chip_main.specs.declared.Done.{Done}
+use Rattle.chip_main.specs.declared.second.Second.{Second}
+use Rattle.chip_main.specs.declared.status.Status.{Status}
 use Rattle.chip_main.specs.World.{World}
 use Rattle.chip_words.specs.Texts.{report_text}
 use Rattle.chip_main.specs.Texts.{elf_file, listing, measurement_line}
-use Rattle.chip_main.specs.Status.{code_of, Telling, ending_status, evidence_status, judged_status, refusal_status, run_status, status_with, text_status, told_status}
+use Rattle.chip_main.specs.Status.{code_of, Telling, ending_status, evidence_status, joint_status, judged_status, refusal_status, run_status, status_with, text_status, told_pair_status, told_status}
 use Rattle.bus_model.specs.BusHistory.{BusHistory}
-use Rattle.chip_run.specs.Run.{RunsProtected}
+use Rattle.chip_run.specs.Run.{RunsProtected, Terms}
 use Rattle.sec_base.specs.Program.{Program}
 use Rattle.chip_device.specs.Buses.{LiesByScript, lies_of, run_history, script_followed}
 use Rattle.chip_device.specs.Device.{terms_of}
 use Rattle.chip_device.specs.Generated.{generated_run}
-use Rattle.chip_main.specs.Answer.{AreBothAnd, IsRunAnd, Ended, IsDone, PlainlyEnded, RanAnd}
+use Rattle.chip_device.specs.Printed.{gathered}
+use Rattle.chip_main.specs.Answer.{AreBothAnd, ArePairAnd, Ended, Halts, IsDone, IsOfPair, IsPairAnd, IsRunAnd, PlainlyEnded, RanAnd}
 use Rattle.chip_main.specs.Endings.{EndedWithoutEvidence, IsHalted, IsTrapped, IsOutOfSteps, EndedTampered, EndedSpent, EndedWithEvidence}
-use Rattle.chip_main.specs.Requests.{ByCommand, Judges, JudgesRequest, PlainlyRuns, PlainlyRunsRequest, RunsRequest, Summarizes, SummarizesRequest, Traces, TracesRequest, Writes, WritesReport, WritesRequest}
-use Rattle.chip_main.specs.Course.{CameAbout, Outcome, TellsCourse, course_bus, course_run, course_status, status_of}
-use Rattle.chip_main.proofs.Outcomes.{benched, judged, own_status, told_own, traced}
-use Rattle.chip_main.proofs.RunStatuses.{evidence_cause, halted_cause, halted_of, no_seven, out_of_steps_cause, out_of_steps_of, spent_cause, spent_of, tampered_cause, tampered_of, trapped_cause, trapped_of}
+use Rattle.chip_main.specs.Requests.{AsksPair, ByCommand, Judges, JudgesRequest, Pairs, PairsRequest, PlainlyRuns, PlainlyRunsRequest, RunsRequest, Summarizes, SummarizesRequest, Traces, TracesRequest, Writes, WritesReport, WritesRequest}
+use Rattle.chip_main.specs.Course.{CameAbout, Outcome, TellsCourse, course_bus, course_run, course_second, course_status, status_of}
+use Rattle.chip_main.proofs.Outcomes.{benched, joint_cases, judged, own_status, pair_own, paired, told_own, traced}
+use Rattle.chip_main.proofs.RunStatuses.{evidence_cause, halted_status, halted_cause, halted_of, no_seven, out_of_steps_cause, out_of_steps_of, spent_cause, spent_of, tampered_cause, tampered_of, trapped_cause, trapped_of}
 
 -- a run and its bus come together
 together : (course : Course) → IsSome (course_run course) ↔ IsSome (course_bus course)
@@ -47,6 +51,7 @@ together OtherTag = (λ is. is, λ is. is)
 together (RanGenerated run bus telling) = (λ is. is, λ is. is)
 together (RanTraced run bus telling) = (λ is. is, λ is. is)
 together (Judged difference telling) = (λ is. is, λ is. is)
+together (RanPair run bus second telling) = (λ is. is, λ is. is)
 
 pub bus_together : {request : Result Asked WordsFault} {old new : World} {done : Done} → Outcome request old new done → IsSome done.run ↔ IsSome done.bus
 bus_together o = rw (o.run, o.bus) (together o.course)
@@ -76,7 +81,7 @@ pub record Says (status : ℕ) (Run : RunAsked → RunRecord → RunBus → Type
   pub of_verdict : (judge : JudgeAsked) (difference : Option Difference) (telling : Telling) → Judges judge files files' out out' difference telling → code_of (judged_status difference telling) ≡ status → Verdict judge
 
 said_of_run : (request : Result Asked WordsFault) (run : RunRecord) (bus : RunBus) (status : ℕ) (Run : RunAsked → RunRecord → RunBus → Type 0) (Plain : ExecutionAsked → Type 0) (Text : FileAsked → (Image → List ℕ) → Type 0) (Check : ReportAsked → Type 0) (Verdict : JudgeAsked → Type 0) (files files' : FilesState) (out out' : SinkState) →
-    Says status Run Plain Text Check Verdict files files' out out' → RunsRequest request files files' out out' run bus → code_of (run_status run) ≡ status → ByCommand request (λ asked. Run asked run bus) Plain Text Check (λ _. Run generated_run run bus) (λ asked. Run asked run bus) Verdict
+    Says status Run Plain Text Check Verdict files files' out out' → RunsRequest request files files' out out' run bus → code_of (run_status run) ≡ status → ByCommand request (λ asked. Run asked run bus) Plain Text Check (λ _. Run generated_run run bus) (λ asked. Run asked run bus) Verdict (λ _. ⊥)
 said_of_run (Err fault) run bus status Run Plain Text Check Verdict files files' out out' says came is = absurd came
 said_of_run (Ok (to_run asked)) run bus status Run Plain Text Check Verdict files files' out out' says came is =
     says.of_run asked came.program came.input out out' _ run bus came.runs is
@@ -88,9 +93,10 @@ said_of_run (Ok (to_verify report)) run bus status Run Plain Text Check Verdict 
 said_of_run (Ok (to_bench number)) run bus status Run Plain Text Check Verdict files files' out out' says came is = absurd came
 said_of_run (Ok (to_trace asked)) run bus status Run Plain Text Check Verdict files files' out out' says came is = absurd came
 said_of_run (Ok (to_judge judge)) run bus status Run Plain Text Check Verdict files files' out out' says came is = absurd came
+said_of_run (Ok (to_pair pair)) run bus status Run Plain Text Check Verdict files files' out out' says came is = absurd came
 
 said_of_plain : (request : Result Asked WordsFault) (run : PlainRecord) (status : ℕ) (Run : RunAsked → RunRecord → RunBus → Type 0) (Plain : ExecutionAsked → Type 0) (Text : FileAsked → (Image → List ℕ) → Type 0) (Check : ReportAsked → Type 0) (Verdict : JudgeAsked → Type 0) (files files' : FilesState) (out out' : SinkState) →
-    Says status Run Plain Text Check Verdict files files' out out' → PlainlyRunsRequest request files files' out out' run → code_of (ending_status run.ending) ≡ status → ByCommand request (λ _. ⊥) Plain Text Check (λ _. ⊥) (λ _. ⊥) Verdict
+    Says status Run Plain Text Check Verdict files files' out out' → PlainlyRunsRequest request files files' out out' run → code_of (ending_status run.ending) ≡ status → ByCommand request (λ _. ⊥) Plain Text Check (λ _. ⊥) (λ _. ⊥) Verdict (λ _. ⊥)
 said_of_plain (Err fault) run status Run Plain Text Check Verdict files files' out out' says came is = absurd came
 said_of_plain (Ok (to_run asked)) run status Run Plain Text Check Verdict files files' out out' says came is = absurd came
 said_of_plain (Ok (to_run_plain execution)) run status Run Plain Text Check Verdict files files' out out' says came is = says.of_plain execution run came is
@@ -101,9 +107,10 @@ said_of_plain (Ok (to_verify report)) run status Run Plain Text Check Verdict fi
 said_of_plain (Ok (to_bench number)) run status Run Plain Text Check Verdict files files' out out' says came is = absurd came
 said_of_plain (Ok (to_trace asked)) run status Run Plain Text Check Verdict files files' out out' says came is = absurd came
 said_of_plain (Ok (to_judge judge)) run status Run Plain Text Check Verdict files files' out out' says came is = absurd came
+said_of_plain (Ok (to_pair pair)) run status Run Plain Text Check Verdict files files' out out' says came is = absurd came
 
 said_of_text : (request : Result Asked WordsFault) (telling : Telling) (status : ℕ) (Run : RunAsked → RunRecord → RunBus → Type 0) (Plain : ExecutionAsked → Type 0) (Text : FileAsked → (Image → List ℕ) → Type 0) (Check : ReportAsked → Type 0) (Verdict : JudgeAsked → Type 0) (files files' : FilesState) (out out' : SinkState) →
-    Says status Run Plain Text Check Verdict files files' out out' → WritesRequest request files files' out out' telling → code_of (text_status telling) ≡ status → ByCommand request (λ _. ⊥) Plain Text Check (λ _. ⊥) (λ _. ⊥) Verdict
+    Says status Run Plain Text Check Verdict files files' out out' → WritesRequest request files files' out out' telling → code_of (text_status telling) ≡ status → ByCommand request (λ _. ⊥) Plain Text Check (λ _. ⊥) (λ _. ⊥) Verdict (λ _. ⊥)
 said_of_text (Err fault) telling status Run Plain Text Check Verdict files files' out out' says came is = absurd came
 said_of_text (Ok (to_run asked)) telling status Run Plain Text Check Verdict files files' out out' says came is = absurd came
 said_of_text (Ok (to_run_plain execution)) telling status Run Plain Text Check Verdict files files' out out' says came is = absurd came
@@ -114,33 +121,58 @@ said_of_text (Ok (to_verify report)) telling status Run Plain Text Check Verdict
 said_of_text (Ok (to_bench number)) telling status Run Plain Text Check Verdict files files' out out' says came is = absurd came
 said_of_text (Ok (to_trace asked)) telling status Run Plain Text Check Verdict files files' out out' says came is = absurd came
 said_of_text (Ok (to_judge judge)) telling status Run Plain Text Check Verdict files files' out out' says came is = absurd came
+said_of_text (Ok (to_pair pair)) telling status Run Plain Text Check Verdict files files' out out' says came is = absurd came
 
 said_of_generated : (request : Result Asked WordsFault) (run : RunRecord) (bus : RunBus) (telling : Telling) (status : ℕ) (Run : RunAsked → RunRecord → RunBus → Type 0) (Plain : ExecutionAsked → Type 0) (Text : FileAsked → (Image → List ℕ) → Type 0) (Check : ReportAsked → Type 0) (Verdict : JudgeAsked → Type 0) (files files' : FilesState) (out out' : SinkState) →
-    Says status Run Plain Text Check Verdict files files' out out' → SummarizesRequest request files files' out out' run bus telling → code_of (told_status run telling) ≡ status → ByCommand request (λ asked. Run asked run bus) Plain Text Check (λ _. Run generated_run run bus) (λ asked. Run asked run bus) Verdict
+    Says status Run Plain Text Check Verdict files files' out out' → SummarizesRequest request files files' out out' run bus telling → code_of (told_status run telling) ≡ status → ByCommand request (λ asked. Run asked run bus) Plain Text Check (λ _. Run generated_run run bus) (λ asked. Run asked run bus) Verdict (λ _. ⊥)
 said_of_generated request run bus telling status Run Plain Text Check Verdict files files' out out' says came is =
     let found = benched request files files' out out' run bus telling came in
     let own = says.of_run generated_run found.2.runs.program [] _ _ _ run bus found.2.runs.runs (told_own run telling status says.low is) in
-    subst (λ (r : Result Asked WordsFault). ByCommand r (λ asked. Run asked run bus) Plain Text Check (λ _. Run generated_run run bus) (λ asked. Run asked run bus) Verdict) (sym found.1) own
+    subst (λ (r : Result Asked WordsFault). ByCommand r (λ asked. Run asked run bus) Plain Text Check (λ _. Run generated_run run bus) (λ asked. Run asked run bus) Verdict (λ _. ⊥)) (sym found.1) own
 
 said_of_traced : (request : Result Asked WordsFault) (run : RunRecord) (bus : RunBus) (telling : Telling) (status : ℕ) (Run : RunAsked → RunRecord → RunBus → Type 0) (Plain : ExecutionAsked → Type 0) (Text : FileAsked → (Image → List ℕ) → Type 0) (Check : ReportAsked → Type 0) (Verdict : JudgeAsked → Type 0) (files files' : FilesState) (out out' : SinkState) →
-    Says status Run Plain Text Check Verdict files files' out out' → TracesRequest request files files' out out' run bus telling → code_of (told_status run telling) ≡ status → ByCommand request (λ asked. Run asked run bus) Plain Text Check (λ _. Run generated_run run bus) (λ asked. Run asked run bus) Verdict
+    Says status Run Plain Text Check Verdict files files' out out' → TracesRequest request files files' out out' run bus telling → code_of (told_status run telling) ≡ status → ByCommand request (λ asked. Run asked run bus) Plain Text Check (λ _. Run generated_run run bus) (λ asked. Run asked run bus) Verdict (λ _. ⊥)
 said_of_traced request run bus telling status Run Plain Text Check Verdict files files' out out' says came is =
     let found = traced request files files' out out' run bus telling came in
     let own = says.of_run found.0 found.2.program found.2.input _ _ _ run bus found.2.traced.runs (told_own run telling status says.low is) in
-    subst (λ (r : Result Asked WordsFault). ByCommand r (λ asked. Run asked run bus) Plain Text Check (λ _. Run generated_run run bus) (λ asked. Run asked run bus) Verdict) (sym found.1) own
+    subst (λ (r : Result Asked WordsFault). ByCommand r (λ asked. Run asked run bus) Plain Text Check (λ _. Run generated_run run bus) (λ asked. Run asked run bus) Verdict (λ _. ⊥)) (sym found.1) own
 
 said_of_verdict : (request : Result Asked WordsFault) (difference : Option Difference) (telling : Telling) (status : ℕ) (Run : RunAsked → RunRecord → RunBus → Type 0) (Plain : ExecutionAsked → Type 0) (Text : FileAsked → (Image → List ℕ) → Type 0) (Check : ReportAsked → Type 0) (Verdict : JudgeAsked → Type 0) (files files' : FilesState) (out out' : SinkState) →
-    Says status Run Plain Text Check Verdict files files' out out' → JudgesRequest request files files' out out' difference telling → code_of (judged_status difference telling) ≡ status → ByCommand request (λ _. ⊥) Plain Text Check (λ _. ⊥) (λ _. ⊥) Verdict
+    Says status Run Plain Text Check Verdict files files' out out' → JudgesRequest request files files' out out' difference telling → code_of (judged_status difference telling) ≡ status → ByCommand request (λ _. ⊥) Plain Text Check (λ _. ⊥) (λ _. ⊥) Verdict (λ _. ⊥)
 said_of_verdict request difference telling status Run Plain Text Check Verdict files files' out out' says came is =
     let found = judged request files files' out out' difference telling came in
     let own = says.of_verdict found.0 difference telling found.2 is in
-    subst (λ (r : Result Asked WordsFault). ByCommand r (λ _. ⊥) Plain Text Check (λ _. ⊥) (λ _. ⊥) Verdict) (sym found.1) own
+    subst (λ (r : Result Asked WordsFault). ByCommand r (λ _. ⊥) Plain Text Check (λ _. ⊥) (λ _. ⊥) Verdict (λ _. ⊥)) (sym found.1) own
+
+-- which of two programs a status is of
+of_pair : (asked : PairAsked) (run : RunRecord) (bus : RunBus) (second : Second) (telling : Telling) (status : ℕ) (Run : RunAsked → RunRecord → RunBus → Type 0) (Plain : ExecutionAsked → Type 0) (Text : FileAsked → (Image → List ℕ) → Type 0) (Check : ReportAsked → Type 0) (Verdict : JudgeAsked → Type 0) (files files' : FilesState) (out out' : SinkState) →
+    Says status Run Plain Text Check Verdict files files' out out' → Pairs asked files files' out out' run bus second telling → code_of (told_pair_status run second.run telling) ≡ status → IsOfPair Run asked run bus second
+of_pair asked run bus second telling status Run Plain Text Check Verdict files files' out out' says pairs is =
+    elim (pair_own run second.run telling status says.low is) [
+      | inl first ↦ inl (
+        λ halts. first.0 (halted_status run bus halts),
+        says.of_run (side_run asked.first) pairs.program [] _ _ _ run bus pairs.runs.side.runs first.1,
+      )
+      | inr then ↦ inr (
+        halted_cause bus pairs.runs.side.runs then.0,
+        says.of_run (side_run asked.second) pairs.second_program [] _ _ _ second.run second.bus pairs.second_runs.side.runs then.1,
+      )
+    ]
+
+said_of_pair : (request : Result Asked WordsFault) (run : RunRecord) (bus : RunBus) (second : Second) (telling : Telling) (status : ℕ) (Run : RunAsked → RunRecord → RunBus → Type 0) (Plain : ExecutionAsked → Type 0) (Text : FileAsked → (Image → List ℕ) → Type 0) (Check : ReportAsked → Type 0) (Verdict : JudgeAsked → Type 0) (files files' : FilesState) (out out' : SinkState) →
+    Says status Run Plain Text Check Verdict files files' out out' → PairsRequest request files files' out out' run bus second telling → code_of (told_pair_status run second.run telling) ≡ status →
+    ByCommand request (λ asked. Run asked run bus) Plain Text Check (λ _. Run generated_run run bus) (λ asked. Run asked run bus) Verdict (λ asked. IsOfPair Run asked run bus second)
+said_of_pair request run bus second telling status Run Plain Text Check Verdict files files' out out' says came is =
+    let found = paired request files files' out out' run bus second telling came in
+    let own = of_pair found.0 run bus second telling status Run Plain Text Check Verdict files files' out out' says found.2 is in
+    subst (λ (r : Result Asked WordsFault). ByCommand r (λ asked. Run asked run bus) Plain Text Check (λ _. Run generated_run run bus) (λ asked. Run asked run bus) Verdict (λ asked. IsOfPair Run asked run bus second)) (sym found.1) own
 
 said : (course : Course) (request : Result Asked WordsFault) (status : ℕ) (Run : RunAsked → RunRecord → RunBus → Type 0) (Plain : ExecutionAsked → Type 0) (Text : FileAsked → (Image → List ℕ) → Type 0) (Check : ReportAsked → Type 0) (Verdict : JudgeAsked → Type 0) (files files' : FilesState) (out out' : SinkState) →
     Says status Run Plain Text Check Verdict files files' out out' → CameAbout course request files files' out out' → code_of (course_status course) ≡ status →
     ByCommand request (λ asked. AreBothAnd (course_run course) (course_bus course) (Run asked)) Plain Text Check
     (λ _. AreBothAnd (course_run course) (course_bus course) (Run generated_run))
     (λ asked. AreBothAnd (course_run course) (course_bus course) (Run asked)) Verdict
+    (λ asked. ArePairAnd (course_run course) (course_bus course) (course_second course) (IsOfPair Run asked))
 said (Refused refusal) request status Run Plain Text Check Verdict files files' out out' says came is = absurd (says.refuses refusal is)
 said NoMemory request status Run Plain Text Check Verdict files files' out out' says came is = absurd (omega (arith, says.low))
 said (Ran run bus) request status Run Plain Text Check Verdict files files' out out' says came is =
@@ -156,11 +188,13 @@ said (RanTraced run bus telling) request status Run Plain Text Check Verdict fil
     said_of_traced request run bus telling status Run Plain Text Check Verdict files files' out out' says came is
 said (Judged difference telling) request status Run Plain Text Check Verdict files files' out out' says came is =
     said_of_verdict request difference telling status Run Plain Text Check Verdict files files' out out' says came is
+said (RanPair run bus second telling) request status Run Plain Text Check Verdict files files' out out' says came is =
+    said_of_pair request run bus second telling status Run Plain Text Check Verdict files files' out out' says came is
 
 by_command : (status : ℕ) (Run : RunAsked → RunRecord → RunBus → Type 0) (Plain : ExecutionAsked → Type 0) (Text : FileAsked → (Image → List ℕ) → Type 0) (Check : ReportAsked → Type 0) (Verdict : JudgeAsked → Type 0) {request : Result Asked WordsFault} {old new : World} {done : Done} →
-    Says status Run Plain Text Check Verdict old.files new.files old.out new.out → Outcome request old new done → done.status ≡ status → ByCommand request (λ asked. IsRunAnd done (Run asked)) Plain Text Check (λ _. IsRunAnd done (Run generated_run)) (λ asked. IsRunAnd done (Run asked)) Verdict
+    Says status Run Plain Text Check Verdict old.files new.files old.out new.out → Outcome request old new done → done.status ≡ status → ByCommand request (λ asked. IsRunAnd done (Run asked)) Plain Text Check (λ _. IsRunAnd done (Run generated_run)) (λ asked. IsRunAnd done (Run asked)) Verdict (λ asked. IsPairAnd done (IsOfPair Run asked))
 by_command status Run Plain Text Check Verdict {request} {old} {new} says o is =
-    rw (o.run, o.bus) (said o.course request status Run Plain Text Check Verdict old.files new.files old.out new.out says o.came (own_status o status says.low is))
+    rw (o.run, o.bus, o.second) (said o.course request status Run Plain Text Check Verdict old.files new.files old.out new.out says o.came (own_status o status says.low is))
 
 -- no refusal has one of these statuses
 unrefused : (status : ℕ) → status ≢ 2 → status ≢ 3 → status ≢ 8 → (refusal : Refusal) → code_of (refusal_status refusal) ≢ status
@@ -173,6 +207,7 @@ unrefused status two three eight (Asm line fault) is = three (sym is)
 unrefused status two three eight (Script line fault) is = three (sym is)
 unrefused status two three eight (Report fault) is = three (sym is)
 unrefused status two three eight (trace_refused fault) is = three (sym is)
+unrefused status two three eight (order_refused error) is = three (sym is)
 
 -- a text has no status from 1 to 8
 unwritten : (status : ℕ) → 0 < status → status < 9 → (telling : Telling) → code_of (text_status telling) ≢ status
@@ -207,19 +242,20 @@ judged_whole judge difference (Err Failed) files files' out out' judges is = abs
 judged_whole judge difference (Err no_memory) files files' out out' judges is = absurd (omega arith)
 
 -- either a program ran, or a text was written, or a trace was judged
-ran_or_written : (request : Result Asked WordsFault) (Run : Type 0) (Plain : ExecutionAsked → Type 0) (Text : FileAsked → (Image → List ℕ) → Type 0) (Check : ReportAsked → Type 0) (Verdict : JudgeAsked → Type 0) → ByCommand request (λ _. Run) Plain Text Check (λ _. Run) (λ _. Run) Verdict →
-    ByCommand request (λ _. Run) Plain (λ _ _. ⊥) (λ _. ⊥) (λ _. Run) (λ _. Run) (λ _. ⊥) ⊎ ByCommand request (λ _. ⊥) (λ _. ⊥) Text Check (λ _. ⊥) (λ _. ⊥) (λ _. ⊥)
-    ⊎ ByCommand request (λ _. ⊥) (λ _. ⊥) (λ _ _. ⊥) (λ _. ⊥) (λ _. ⊥) (λ _. ⊥) Verdict
-ran_or_written (Err fault) Run Plain Text Check Verdict holds = absurd holds
-ran_or_written (Ok (to_run asked)) Run Plain Text Check Verdict holds = inl holds
-ran_or_written (Ok (to_run_plain execution)) Run Plain Text Check Verdict holds = inl holds
-ran_or_written (Ok (to_assemble file)) Run Plain Text Check Verdict holds = inr (inl holds)
-ran_or_written (Ok (to_disassemble file)) Run Plain Text Check Verdict holds = inr (inl holds)
-ran_or_written (Ok (to_measure file)) Run Plain Text Check Verdict holds = inr (inl holds)
-ran_or_written (Ok (to_verify report)) Run Plain Text Check Verdict holds = inr (inl holds)
-ran_or_written (Ok (to_bench number)) Run Plain Text Check Verdict holds = inl holds
-ran_or_written (Ok (to_trace asked)) Run Plain Text Check Verdict holds = inl holds
-ran_or_written (Ok (to_judge judge)) Run Plain Text Check Verdict holds = inr (inr holds)
+ran_or_written : (request : Result Asked WordsFault) (Run : Type 0) (Plain : ExecutionAsked → Type 0) (Text : FileAsked → (Image → List ℕ) → Type 0) (Check : ReportAsked → Type 0) (Verdict : JudgeAsked → Type 0) (Pair : PairAsked → Type 0) → ByCommand request (λ _. Run) Plain Text Check (λ _. Run) (λ _. Run) Verdict Pair →
+    ByCommand request (λ _. Run) Plain (λ _ _. ⊥) (λ _. ⊥) (λ _. Run) (λ _. Run) (λ _. ⊥) Pair ⊎ ByCommand request (λ _. ⊥) (λ _. ⊥) Text Check (λ _. ⊥) (λ _. ⊥) (λ _. ⊥) (λ _. ⊥)
+    ⊎ ByCommand request (λ _. ⊥) (λ _. ⊥) (λ _ _. ⊥) (λ _. ⊥) (λ _. ⊥) (λ _. ⊥) Verdict (λ _. ⊥)
+ran_or_written (Err fault) Run Plain Text Check Verdict Pair holds = absurd holds
+ran_or_written (Ok (to_run asked)) Run Plain Text Check Verdict Pair holds = inl holds
+ran_or_written (Ok (to_run_plain execution)) Run Plain Text Check Verdict Pair holds = inl holds
+ran_or_written (Ok (to_assemble file)) Run Plain Text Check Verdict Pair holds = inr (inl holds)
+ran_or_written (Ok (to_disassemble file)) Run Plain Text Check Verdict Pair holds = inr (inl holds)
+ran_or_written (Ok (to_measure file)) Run Plain Text Check Verdict Pair holds = inr (inl holds)
+ran_or_written (Ok (to_verify report)) Run Plain Text Check Verdict Pair holds = inr (inl holds)
+ran_or_written (Ok (to_bench number)) Run Plain Text Check Verdict Pair holds = inl holds
+ran_or_written (Ok (to_trace asked)) Run Plain Text Check Verdict Pair holds = inl holds
+ran_or_written (Ok (to_judge judge)) Run Plain Text Check Verdict Pair holds = inr (inr holds)
+ran_or_written (Ok (to_pair pair)) Run Plain Text Check Verdict Pair holds = inl holds
 
 pub is_done : {request : Result Asked WordsFault} {old new : World} {done : Done} → Outcome request old new done → done.status ≡ 0 → IsDone request old new done
 is_done {request = request} {old = old} {new = new} {done = done} o is =
@@ -227,6 +263,7 @@ is_done {request = request} {old = old} {new = new} {done = done} o is =
     let check : ReportAsked → Type 0 = λ asked. WritesReport asked old.files new.files old.out new.out (Ok tt) in
     let verdict : JudgeAsked → Type 0 = λ judge. Judges judge old.files new.files old.out new.out None (Ok tt) in
     ran_or_written request (IsRunAnd done (EndedWithoutEvidence IsHalted)) (λ execution. PlainlyEnded IsHalted execution old new) text check verdict
+    (λ asked. IsPairAnd done (IsOfPair (λ _. EndedWithoutEvidence IsHalted) asked))
     (by_command 0 (λ _. EndedWithoutEvidence IsHalted) (λ execution. PlainlyEnded IsHalted execution old new) text check verdict (record {
       refuses = unrefused 0 (omega arith) (omega arith) (omega arith);
       low = omega arith;
@@ -261,9 +298,9 @@ out_of_steps {old = old} {new = new} o is =
       of_verdict = λ judge difference telling judges is. unjudged 4 (omega arith) (omega arith) difference telling is;
     }) o is
 
-tampered_ending : {request : Result Asked WordsFault} {old new : World} {done : Done} → Outcome request old new done → done.status ≡ 5 →
+pub tampered : {request : Result Asked WordsFault} {old new : World} {done : Done} → Outcome request old new done → done.status ≡ 5 →
     RanAnd EndedTampered request done
-tampered_ending o is = by_command 5 EndedTampered (λ _. ⊥) (λ _ _. ⊥) (λ _. ⊥) (λ _. ⊥) (record {
+tampered o is = by_command 5 EndedTampered (λ _. ⊥) (λ _ _. ⊥) (λ _. ⊥) (λ _. ⊥) (record {
   refuses = unrefused 5 (omega arith) (omega arith) (omega arith);
   low = omega arith;
   of_run = λ asked program input from to before run bus runs is. tampered_cause asked program input bus runs is;
@@ -297,29 +334,6 @@ with_evidence o is = by_command 7 EndedWithEvidence (λ _. ⊥) (λ _ _. ⊥) (�
   of_verdict = λ judge difference telling judges is. unjudged 7 (omega arith) (omega arith) difference telling is;
 }) o is
 
--- the one false answer of a bus that was caught
-caught_once : (asked : RunAsked) (run : Option RunRecord) (bus : Option RunBus) → AreBothAnd run bus (EndedTampered asked) → lies_of bus ≡ 1
-caught_once asked None bus ended = absurd ended
-caught_once asked (Some run) None ended = absurd ended
-caught_once asked (Some run) (Some bus) ended = ended.caught.lies
-
-tampered_once : (request : Result Asked WordsFault) (done : Done) → RanAnd EndedTampered request done → lies_of done.bus ≡ 1
-tampered_once (Err fault) done ended = absurd ended
-tampered_once (Ok (to_run asked)) done ended = caught_once asked done.run done.bus ended
-tampered_once (Ok (to_run_plain execution)) done ended = absurd ended
-tampered_once (Ok (to_assemble file)) done ended = absurd ended
-tampered_once (Ok (to_disassemble file)) done ended = absurd ended
-tampered_once (Ok (to_measure file)) done ended = absurd ended
-tampered_once (Ok (to_verify report)) done ended = absurd ended
-tampered_once (Ok (to_bench number)) done ended = caught_once generated_run done.run done.bus ended
-tampered_once (Ok (to_trace asked)) done ended = caught_once asked done.run done.bus ended
-tampered_once (Ok (to_judge judge)) done ended = absurd ended
-
-pub tampered : {request : Result Asked WordsFault} {old new : World} {done : Done} → Outcome request old new done → done.status ≡ 5 → RanAnd EndedTampered request done × (done.lies ≡ 1)
-tampered {request = request} {done = done} o is =
-    let ended = tampered_ending o is in
-    (ended, o.lies ∙ rw (← o.bus) (tampered_once request done ended))
-
 -- ---- failed writes
 
 fault_of : (ending : Ending) → code_of (ending_status ending) ≡ 9 → ending ≡ WriteFault
@@ -344,6 +358,7 @@ refusal_no_fault (Asm line fault) is = omega arith
 refusal_no_fault (Script line fault) is = omega arith
 refusal_no_fault (Report fault) is = omega arith
 refusal_no_fault (trace_refused fault) is = omega arith
+refusal_no_fault (order_refused error) is = omega arith
 
 -- the request is for a text, or for the check of a report
 pub text_written : (request : Result Asked WordsFault) (files files' : FilesState) (out out' : SinkState) (telling : Telling) → WritesRequest request files files' out out' telling →
@@ -358,6 +373,7 @@ text_written (Ok (to_verify report)) files files' out out' telling came = (repor
 text_written (Ok (to_bench number)) files files' out out' telling came = absurd came
 text_written (Ok (to_trace asked)) files files' out out' telling came = absurd came
 text_written (Ok (to_judge judge)) files files' out out' telling came = absurd came
+text_written (Ok (to_pair pair)) files files' out out' telling came = absurd came
 
 text_failed : (text : List ℕ) (old new : SinkState) (telling : Telling) → IsWritten text old new telling → code_of (text_status telling) ≡ 9 → Rose old.faults new.faults
 text_failed text old new (Ok _) told is = absurd (omega arith)
@@ -387,6 +403,19 @@ verdict_failed judge (Some difference) (Ok _) files files' out out' judges is = 
 verdict_failed judge difference (Err Failed) files files' out out' judges is = judges.written.1
 verdict_failed judge difference (Err no_memory) files files' out out' judges is = absurd (omega arith)
 
+-- and what two programs print likewise, so it is the write of both
+gathered_fault : {terms : Terms} {printed : List ℕ} {before : BusHistory} (run : RunRecord) (bus : RunBus) → RunsProtected terms (gathered []) (gathered printed) before (run_history bus) run → code_of (run_status run) ≢ 9
+gathered_fault run bus runs is = let risen : 1 ≤ 0 = runs.sink.write_fault (run_fault_of run.evidence run.ending is) in omega arith
+
+pair_failed : (asked : PairAsked) (run : RunRecord) (bus : RunBus) (second : Second) (telling : Telling) (files files' : FilesState) (out out' : SinkState) → Pairs asked files files' out out' run bus second telling →
+    code_of (told_pair_status run second.run telling) ≡ 9 → Rose out.faults out'.faults
+pair_failed asked run bus second (Ok _) files files' out out' pairs is = elim (joint_cases (run_status run) (run_status second.run)) [
+  | inl first ↦ absurd (gathered_fault run bus pairs.runs.side.runs (sym (ap code_of first) ∙ is))
+  | inr then ↦ absurd (gathered_fault second.run second.bus pairs.second_runs.side.runs (sym (ap code_of then) ∙ is))
+]
+pair_failed asked run bus second (Err Failed) files files' out out' pairs is = pairs.written.1
+pair_failed asked run bus second (Err no_memory) files files' out out' pairs is = absurd (omega arith)
+
 -- a failed write of the sink for what is printed
 out_failed : (course : Course) (request : Result Asked WordsFault) (files files' : FilesState) (out out' : SinkState) → CameAbout course request files files' out out' → code_of (course_status course) ≡ 9 → Rose out.faults out'.faults
 out_failed (Refused refusal) request files files' out out' came is = absurd (refusal_no_fault refusal is)
@@ -401,6 +430,7 @@ out_failed (Ran run bus) (Ok (to_verify report)) files files' out out' came is =
 out_failed (Ran run bus) (Ok (to_bench number)) files files' out out' came is = absurd came
 out_failed (Ran run bus) (Ok (to_trace asked)) files files' out out' came is = absurd came
 out_failed (Ran run bus) (Ok (to_judge judge)) files files' out out' came is = absurd came
+out_failed (Ran run bus) (Ok (to_pair pair)) files files' out out' came is = absurd came
 out_failed (RanPlain run) (Err fault) files files' out out' came is = absurd came
 out_failed (RanPlain run) (Ok (to_run asked)) files files' out out' came is = absurd came
 out_failed (RanPlain run) (Ok (to_run_plain execution)) files files' out out' came is = came.3.sink.write_fault (fault_of run.ending is)
@@ -411,6 +441,7 @@ out_failed (RanPlain run) (Ok (to_verify report)) files files' out out' came is 
 out_failed (RanPlain run) (Ok (to_bench number)) files files' out out' came is = absurd came
 out_failed (RanPlain run) (Ok (to_trace asked)) files files' out out' came is = absurd came
 out_failed (RanPlain run) (Ok (to_judge judge)) files files' out out' came is = absurd came
+out_failed (RanPlain run) (Ok (to_pair pair)) files files' out out' came is = absurd came
 out_failed (Written telling) request files files' out out' came is =
     let written = text_written request files files' out out' telling came in
     text_failed written.0 out out' telling written.1 is
@@ -424,6 +455,9 @@ out_failed (RanTraced run bus telling) request files files' out out' came is =
 out_failed (Judged difference telling) request files files' out out' came is =
     let found = judged request files files' out out' difference telling came in
     verdict_failed found.0 difference telling files files' out out' found.2 is
+out_failed (RanPair run bus second telling) request files files' out out' came is =
+    let found = paired request files files' out out' run bus second telling came in
+    pair_failed found.0 run bus second telling files files' out out' found.2 is
 
 failed : (course : Course) (telling : Telling) (request : Result Asked WordsFault) (files files' : FilesState) (out out' note note' : SinkState) → CameAbout course request files files' out out' → TellsCourse course note note' telling → code_of (status_of course telling) ≡ 9 →
     Rose out.faults out'.faults ⊎ Rose note.faults note'.faults
@@ -440,8 +474,49 @@ failed (RanGenerated run bus written) (Err Failed) request files files' out out'
 failed (RanTraced run bus written) (Err Failed) request files files' out out' note note' came tells is = inr tells.1
 failed (Judged difference written) (Err Failed) request files files' out out' note note' came tells is =
     inl (out_failed (Judged difference written) request files files' out out' came is)
+failed (RanPair run bus second written) (Err Failed) request files files' out out' note note' came tells is = inr tells.1
 
 pub write_fault : {request : Result Asked WordsFault} {old new : World} {done : Done} → Outcome request old new done → done.status ≡ 9 →
     Rose old.out.faults new.out.faults ⊎ Rose old.note.faults new.note.faults
 write_fault {request} {old} {new} o is =
     failed o.course o.told request old.files new.files old.out new.out old.note new.note o.came o.tells (sym o.status ∙ is)
+
+-- ---- whether there is a second one
+
+unpaired_run : (request : Result Asked WordsFault) (files files' : FilesState) (out out' : SinkState) (run : RunRecord) (bus : RunBus) → RunsRequest request files files' out out' run bus → ¬ AsksPair request
+unpaired_run (Err fault) files files' out out' run bus came asks = asks
+unpaired_run (Ok (to_run asked)) files files' out out' run bus came asks = asks
+unpaired_run (Ok (to_run_plain execution)) files files' out out' run bus came asks = asks
+unpaired_run (Ok (to_assemble file)) files files' out out' run bus came asks = asks
+unpaired_run (Ok (to_disassemble file)) files files' out out' run bus came asks = asks
+unpaired_run (Ok (to_measure file)) files files' out out' run bus came asks = asks
+unpaired_run (Ok (to_verify report)) files files' out out' run bus came asks = asks
+unpaired_run (Ok (to_bench number)) files files' out out' run bus came asks = asks
+unpaired_run (Ok (to_trace asked)) files files' out out' run bus came asks = asks
+unpaired_run (Ok (to_judge judge)) files files' out out' run bus came asks = asks
+unpaired_run (Ok (to_pair pair)) files files' out out' run bus came asks = came
+
+-- there is none of a course in which no second one ran
+abbrev pub IsSecond : Course → Result Asked WordsFault → Type 0
+IsSecond course request = IsSome (course_second course) ↔ (IsSome (course_run course) × AsksPair request)
+
+second_is : (course : Course) (request : Result Asked WordsFault) (files files' : FilesState) (out out' : SinkState) → CameAbout course request files files' out out' → IsSecond course request
+second_is (Refused refusal) request files files' out out' came = (λ is. absurd cc, λ both. let none = both.0 in absurd cc)
+second_is NoMemory request files files' out out' came = (λ is. absurd cc, λ both. let none = both.0 in absurd cc)
+second_is (Ran run bus) request files files' out out' came = (λ is. absurd cc, λ both. absurd (unpaired_run request files files' out out' run bus came both.1))
+second_is (RanPlain run) request files files' out out' came = (λ is. absurd cc, λ both. let none = both.0 in absurd cc)
+second_is (Written telling) request files files' out out' came = (λ is. absurd cc, λ both. let none = both.0 in absurd cc)
+second_is OtherTag request files files' out out' came = (λ is. absurd cc, λ both. let none = both.0 in absurd cc)
+second_is (RanGenerated run bus telling) request files files' out out' came =
+    let found = benched request files files' out out' run bus telling came in
+    (λ is. absurd cc, λ both. absurd (subst AsksPair found.1 both.1))
+second_is (RanTraced run bus telling) request files files' out out' came =
+    let found = traced request files files' out out' run bus telling came in
+    (λ is. absurd cc, λ both. absurd (subst AsksPair found.1 both.1))
+second_is (Judged difference telling) request files files' out out' came = (λ is. absurd cc, λ both. let none = both.0 in absurd cc)
+second_is (RanPair run bus second telling) request files files' out out' came =
+    let found = paired request files files' out out' run bus second telling came in
+    (λ is. (refl, subst AsksPair (sym found.1) tt), λ both. refl)
+
+pub second_there : {request : Result Asked WordsFault} {old new : World} {done : Done} → Outcome request old new done → IsSome done.second ↔ (IsSome done.run × AsksPair request)
+second_there {request} {old} {new} o = rw (o.run, o.second) (second_is o.course request old.files new.files old.out new.out o.came)

@@ -1,5 +1,5 @@
 -- What the status of a run on protected memory says of how it ended.
-use Rattle.std.proofs.Common.{◌≡◌, ◌≢◌, ◌<◌, ◌≤◌, inl, inr, List, ℕ, Option, Some, None, IfSome, IsTrue, refl, sym, ◌∙◌, subst, arith}
+use Rattle.std.proofs.Common.{◌≡◌, ◌≢◌, ◌<◌, ◌≤◌, inl, inr, List, ℕ, Option, Some, None, IfSome, IsTrue, refl, sym, ap, ◌∙◌, subst, arith}
 use Rattle.sec_base.specs.Sink.{SinkState}
 use Rattle.sec_base.specs.declared.evidence.Evidence.{Evidence}
 use Rattle.sec_base.specs.declared.message.Message.{Message}
@@ -46,6 +46,16 @@ unfolding HasNoEvidence
 low_status run status is low =
     let none = low_without_evidence run.evidence run.ending (subst (λ (n : ℕ). n < 7) (sym is) low) in
     (none, sym (run_status_without_evidence run none) ∙ is)
+
+same_status : (evidence : Option Evidence) (ending : Ending) → evidence ≡ None → status_with evidence ending ≡ ending_status ending
+same_status None ending none = refl
+same_status (Some evidence) ending none = absurd cc
+
+pub same_run_status : (run : RunRecord) → run.evidence ≡ None → run_status run ≡ ending_status run.ending
+same_run_status run none = same_status run.evidence run.ending none
+
+pub halted_status : (run : RunRecord) (bus : RunBus) → EndedWithoutEvidence IsHalted run bus → code_of (run_status run) ≡ 0
+halted_status run bus halts = run_status_without_evidence run halts.no_evidence ∙ ap (λ e. code_of (ending_status e)) halts.ended.1
 
 pub halted_of : (ending : Ending) → code_of (ending_status ending) ≡ 0 → IsHalted ending
 halted_of (Halted exit) is = (exit, refl)

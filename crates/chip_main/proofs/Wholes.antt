@@ -17,14 +17,16 @@ use Rattle.rv32_core.specs.Follows.{IsWhole}
 use Rattle.plain_machine.specs.declared.PlainRecord.{PlainRecord}
 use Rattle.chip_run.specs.Run.{IsCutOff, RunsProtected, Terms}
 use Rattle.chip_run.specs.declared.RunRecord.{RunRecord}
-use Rattle.chip_words.specs.Request.{Asked, ExecutionAsked, FileAsked, JudgeAsked, ReportAsked, RunAsked, WordsFault, to_assemble, to_bench, to_disassemble, to_judge, to_measure, to_run, to_run_plain, to_trace, to_verify}
+use Rattle.chip_words.specs.Defaults.{side_run}
+use Rattle.chip_words.specs.Request.{Asked, ExecutionAsked, FileAsked, JudgeAsked, PairAsked, ReportAsked, RunAsked, SideAsked, WordsFault, to_assemble, to_bench, to_disassemble, to_judge, to_measure, to_pair, to_run, to_run_plain, to_trace, to_verify}
 use Rattle.sec_base.specs.Program.{Program}
 use Rattle.chip_files.specs.declared.refusal.Refusal.{Refusal}
-use Rattle.chip_files.specs.declared.refusal.Refusal.TheVariants.{Usage, WrongValue, Unread, TooLong, Elf, Asm, Script, Report, Trace as trace_refused}
+use Rattle.chip_files.specs.declared.refusal.Refusal.TheVariants.{Usage, WrongValue, Unread, TooLong, Elf, Asm, Script, Report, Trace as trace_refused, Order as order_refused}
 use Rattle.chip_device.specs.declared.run_bus.RunBus.{RunBus}
 use Rattle.chip_main.specs.declared.course.Course.{Course}
-use Rattle.chip_main.specs.declared.course.Course.TheVariants.{Refused, NoMemory, Ran, RanPlain, Written, OtherTag, RanGenerated, RanTraced, Judged}
+use Rattle.chip_main.specs.declared.course.Course.TheVariants.{Refused, NoMemory, Ran, RanPlain, Written, OtherTag, RanGenerated, RanTraced, Judged, RanPair}
 use Rattle.chip_main.specs.declared.Done.{Done}
+use Rattle.chip_main.specs.declared.second.Second.{Second}
 use Rattle.workload_gen.specs.Workload.{workload_of}
 use Rattle.chip_files.specs.Program.{program_of_file}
 use Rattle.chip_device.specs.Device.{terms_of, opening}
@@ -33,7 +35,7 @@ use Rattle.chip_main.specs.World.{World}
 use Rattle.attest_report.specs.declared.refusal.ReportError.{ReportError}
 use Rattle.attest_report.specs.declared.refusal.ReportError.TheVariants.{Tag}
 use Rattle.chip_files.specs.Verdict.{verdict_of}
-use Rattle.chip_files.specs.Needs.{Need, AreAccepted, HasTold, IsAccepted, asked_needs, report_need}
+use Rattle.chip_files.specs.Needs.{Need, AreAccepted, HasTold, IsAccepted, asked_needs, pair_needs, report_need}
 use Rattle.chip_files.specs.Traces.{trace_in}
 use Rattle.chip_files.specs.Causes.{IsCause, IsMisformed, IsRefused, Stops}
 use Rattle.chip_files.specs.Taken.{IsInput, IsProgram, IsTraceFile, Tell}
@@ -42,20 +44,21 @@ use Rattle.chip_device.specs.Generated.{generated_execution, generated_run}
 use Rattle.chip_device.specs.Judged.{IsJudged}
 use Rattle.chip_device.specs.Printed.{gathered}
 use Rattle.chip_device.specs.Traced.{IsTold}
-use Rattle.chip_main.specs.Status.{IsOneOf, code_of, Telling, ending_status, found_status, judged_status, run_status, told_status}
+use Rattle.chip_main.specs.Status.{IsOneOf, code_of, Telling, ending_status, found_status, joint_status, judged_status, run_status, told_pair_status, told_status}
 use Rattle.chip_main.specs.declared.status.Status.{Status}
 use Rattle.chip_main.specs.declared.status.Status.TheVariants as status
-use Rattle.chip_main.specs.Answer.{AreBothAnd}
-use Rattle.chip_main.specs.Whole.{Faultless, JudgedWhole, RanWhole, Ready, TracedWhole, WroteTrace, plain_status, verdict_status, whole_statuses}
-use Rattle.chip_main.specs.Requests.{Judges, PlainlyRuns, RunsRequested, Summarizes, Traces, Writes, WritesReport}
-use Rattle.chip_main.specs.Course.{CameAbout, Outcome, TellsCourse, course_bus, course_run, status_of}
+use Rattle.chip_main.specs.Answer.{AreBothAnd, ArePairAnd}
+use Rattle.chip_main.specs.Whole.{Faultless, JudgedWhole, PairWhole, PairedWhole, RanSideWhole, RanWhole, Ready, ReadyPair, TracedWhole, WroteTrace, plain_status, second_lies, verdict_status, whole_statuses}
+use Rattle.chip_main.specs.Requests.{Judges, Pairs, PlainlyRuns, RunsRequested, Summarizes, Traces, Writes, WritesReport}
+use Rattle.chip_main.specs.Course.{CameAbout, Outcome, TellsCourse, course_bus, course_run, course_second, status_of}
 use Rattle.chip_main.specs.Texts.{elf_file, listing, measurement_line, verdict_line}
 use Rattle.chip_files.proofs.Accepted.{all_accepted, input_accepted, program_accepted}
 use Rattle.chip_files.proofs.Judged.{all_judged_accepted}
+use Rattle.chip_files.proofs.Paired.{all_pair_accepted}
 use Rattle.chip_files.proofs.Takings.{whole_cause}
 use Rattle.chip_files.proofs.Verdicts.{made_verdict}
 use Rattle.chip_main.proofs.Requested.{WritesOr, accepted_at, asm_came, came_as, dis_came, measure_came, same_bytes, unrefused_bench}
-use Rattle.chip_main.proofs.RunStatuses.{honest_without_evidence, run_status_without_evidence}
+use Rattle.chip_main.proofs.RunStatuses.{honest_without_evidence, run_status_without_evidence, same_run_status}
 
 -- ---- nothing is refused
 
@@ -89,6 +92,7 @@ no_cause (Asm line fault) need bytes files files' tells accepted quiet cause = f
 no_cause (Script line fault) need bytes files files' tells accepted quiet cause = formed (Script line fault) need bytes files tells accepted cause
 no_cause (Report fault) need bytes files files' tells accepted quiet cause = formed (Report fault) need bytes files tells accepted cause
 no_cause (trace_refused fault) need bytes files files' tells accepted quiet cause = formed (trace_refused fault) need bytes files tells accepted cause
+no_cause (order_refused error) need bytes files files' tells accepted quiet cause = formed (order_refused error) need bytes files tells accepted cause
 
 no_stop : (refusal : Refusal) (needs : List Need) (files files' : FilesState) → Tell files → AreAccepted files needs → ¬ Rose files.faults files'.faults → ¬ Stops refusal needs files files'
 no_stop refusal needs files files' tells accepted quiet stops =
@@ -105,6 +109,7 @@ unrefused (Asm line fault) asked files files' tells accepted quiet cause = no_st
 unrefused (Script line fault) asked files files' tells accepted quiet cause = no_stop (Script line fault) (asked_needs asked) files files' tells accepted quiet cause
 unrefused (Report fault) asked files files' tells accepted quiet cause = no_stop (Report fault) (asked_needs asked) files files' tells accepted quiet cause
 unrefused (trace_refused fault) asked files files' tells accepted quiet cause = no_stop (trace_refused fault) (asked_needs asked) files files' tells accepted quiet cause
+unrefused (order_refused error) asked files files' tells accepted quiet cause = no_stop (order_refused error) (asked_needs asked) files files' tells accepted quiet cause
 
 -- all that is needed is accepted
 ready_accepted : (asked : Asked) (files : FilesState) (program : Program) (script : Option (List ScriptLine)) (input : List ℕ) → Ready asked files program script input → AreAccepted files (asked_needs asked)
@@ -119,6 +124,7 @@ ready_accepted (to_bench number) files program script input ready = absurd ready
 ready_accepted (to_trace asked) files program script input ready = all_accepted asked files program script input ready.program_is ready.script_is ready.input_is
 ready_accepted (to_judge judge) files program script input ready =
     all_judged_accepted judge files program input ready.trace_is.0 ready.program_is ready.input_is ready.trace_is.1
+ready_accepted (to_pair pair) files program script input ready = absurd ready.program_is
 
 -- ---- what was taken is what is ready
 
@@ -222,7 +228,9 @@ whole_of (RanGenerated run bus written) (Err Failed) asked program script input 
 whole_of (RanTraced run bus written) (Ok _) asked program script input files files' out out' note note' came tells ready none quiet_files quiet_out quiet_note = absurd came
 whole_of (RanTraced run bus written) (Err Failed) asked program script input files files' out out' note note' came tells ready none quiet_files quiet_out quiet_note = absurd came
 whole_of (Judged difference written) (Ok _) asked program script input files files' out out' note note' came tells ready none quiet_files quiet_out quiet_note = absurd came
+whole_of (RanPair run bus second written) (Ok _) asked program script input files files' out out' note note' came tells ready none quiet_files quiet_out quiet_note = absurd came
 whole_of (Judged difference written) (Err Failed) asked program script input files files' out out' note note' came tells ready none quiet_files quiet_out quiet_note = absurd came
+whole_of (RanPair run bus second written) (Err Failed) asked program script input files files' out out' note note' came tells ready none quiet_files quiet_out quiet_note = absurd came
 
 pub whole_run : {request : Result Asked WordsFault} {old new : World} {done : Done} → Outcome request old new done → (asked : RunAsked) (program : Program) (script : Option (List ScriptLine)) (input : List ℕ) →
     request ≡ Ok (to_run asked) → Ready (to_run asked) old.files program script input → Faultless (to_run asked) old new done → IsOneOf other_statuses done.status ⊎ RanWhole asked.execution program input done
@@ -288,7 +296,9 @@ whole_plain_of (RanGenerated run bus written) (Err Failed) execution program scr
 whole_plain_of (RanTraced run bus written) (Ok _) execution program script input files files' out out' note note' came tells ready quiet_files quiet_out quiet_note = absurd came
 whole_plain_of (RanTraced run bus written) (Err Failed) execution program script input files files' out out' note note' came tells ready quiet_files quiet_out quiet_note = absurd came
 whole_plain_of (Judged difference written) (Ok _) execution program script input files files' out out' note note' came tells ready quiet_files quiet_out quiet_note = absurd came
+whole_plain_of (RanPair run bus second written) (Ok _) execution program script input files files' out out' note note' came tells ready quiet_files quiet_out quiet_note = absurd came
 whole_plain_of (Judged difference written) (Err Failed) execution program script input files files' out out' note note' came tells ready quiet_files quiet_out quiet_note = absurd came
+whole_plain_of (RanPair run bus second written) (Err Failed) execution program script input files files' out out' note note' came tells ready quiet_files quiet_out quiet_note = absurd came
 
 plain_whole : {request : Result Asked WordsFault} {old new : World} {done : Done} → Outcome request old new done → (execution : ExecutionAsked) (program : Program) (script : Option (List ScriptLine)) (input : List ℕ) →
     request ≡ Ok (to_run_plain execution) → Ready (to_run_plain execution) old.files program script input → Faultless (to_run_plain execution) old new done → IsOneOf (plain_statuses execution program input) done.status
@@ -322,6 +332,7 @@ whole_text_of OtherTag telling asked file text program script input files files'
 whole_text_of (RanGenerated run bus written) telling asked file text program script input files files' out out' note note' came writes tells ready quiet_files quiet_out = absurd writes
 whole_text_of (RanTraced run bus written) telling asked file text program script input files files' out out' note note' came writes tells ready quiet_files quiet_out = absurd writes
 whole_text_of (Judged difference written) telling asked file text program script input files files' out out' note note' came writes tells ready quiet_files quiet_out = absurd writes
+whole_text_of (RanPair run bus second written) telling asked file text program script input files files' out out' note note' came writes tells ready quiet_files quiet_out = absurd writes
 
 text_whole : {request : Result Asked WordsFault} {old new : World} {done : Done} → (o : Outcome request old new done) → (asked : Asked) (file : FileAsked) (text : Image → List ℕ) (program : Program) (script : Option (List ScriptLine)) (input : List ℕ) → request ≡ Ok asked →
     WritesOr o.course file text old.files new.files old.out new.out → Ready asked old.files program script input → Faultless asked old new done → IsOneOf text_statuses done.status
@@ -371,6 +382,7 @@ whole_report_of OtherTag (Err no_memory) asked text files files' out out' note n
 whole_report_of (RanGenerated run bus written) telling asked text files files' out out' note note' came tells told ready quiet_files quiet_out quiet_note = absurd came
 whole_report_of (RanTraced run bus written) telling asked text files files' out out' note note' came tells told ready quiet_files quiet_out quiet_note = absurd came
 whole_report_of (Judged difference written) telling asked text files files' out out' note note' came tells told ready quiet_files quiet_out quiet_note = absurd came
+whole_report_of (RanPair run bus second written) telling asked text files files' out out' note note' came tells told ready quiet_files quiet_out quiet_note = absurd came
 
 pub whole_report : {request : Result Asked WordsFault} {old new : World} {done : Done} → Outcome request old new done → (asked : ReportAsked) (text : List ℕ) → request ≡ Ok (to_verify asked) → Tell old.files →
     IsAccepted old.files (report_need asked) text → Faultless (to_verify asked) old new done → IsOneOf (checked_statuses asked text) done.status
@@ -423,6 +435,7 @@ whole_bench_of (RanGenerated run bus written) telling number program files files
     rw tells.1 (summary_whole number program run bus written files files' out out' came is none quiet)
 whole_bench_of (RanTraced run bus written) telling number program files files' out out' note note' came tells is none quiet = absurd came
 whole_bench_of (Judged difference written) telling number program files files' out out' note note' came tells is none quiet = absurd came
+whole_bench_of (RanPair run bus second written) telling number program files files' out out' note note' came tells is none quiet = absurd came
 
 pub whole_bench : {request : Result Asked WordsFault} {old new : World} {done : Done} → Outcome request old new done → (number : ℕ) (program : Program) → request ≡ Ok (to_bench number) → workload_of number ≡ Ok program →
     Faultless (to_bench number) old new done → (done.status ≡ 10) ⊎ RanWhole generated_execution program [] done
@@ -515,7 +528,9 @@ whole_trace_of (RanTraced run bus written) (Ok _) asked program script input old
     traced_told asked program script input old new run bus written ready came none quiet_out
 whole_trace_of (RanTraced run bus written) (Err Failed) asked program script input old new came tells ready none quiet_files quiet_out quiet_note = absurd (quiet_note tells.1)
 whole_trace_of (Judged difference written) (Ok _) asked program script input old new came tells ready none quiet_files quiet_out quiet_note = absurd came
+whole_trace_of (RanPair run bus second written) (Ok _) asked program script input old new came tells ready none quiet_files quiet_out quiet_note = absurd came
 whole_trace_of (Judged difference written) (Err Failed) asked program script input old new came tells ready none quiet_files quiet_out quiet_note = absurd came
+whole_trace_of (RanPair run bus second written) (Err Failed) asked program script input old new came tells ready none quiet_files quiet_out quiet_note = absurd came
 
 -- the run, the bus and the status are the answer's
 traced_answer : (asked : RunAsked) (program : Program) (input : List ℕ) (old new : World) (done : Done) (run : Option RunRecord) (bus : Option RunBus) (status : ℕ) → done.run ≡ run → done.bus ≡ bus → done.status ≡ status →
@@ -588,6 +603,7 @@ whole_judgement_of (Written written) telling judge program input trace old new c
 whole_judgement_of OtherTag telling judge program input trace old new came tells ready trace_is quiet_files quiet_out = absurd came.0
 whole_judgement_of (RanGenerated run bus written) telling judge program input trace old new came tells ready trace_is quiet_files quiet_out = absurd came
 whole_judgement_of (RanTraced run bus written) telling judge program input trace old new came tells ready trace_is quiet_files quiet_out = absurd came
+whole_judgement_of (RanPair run bus second written) telling judge program input trace old new came tells ready trace_is quiet_files quiet_out = absurd came
 whole_judgement_of (Judged difference written) telling judge program input trace old new came tells ready trace_is quiet_files quiet_out =
     rw tells.1 (judged_told judge program input trace old new difference written ready trace_is came quiet_out)
 
@@ -618,6 +634,113 @@ judged_due : (judge : JudgeAsked) (program : Program) (input : List ℕ) (trace 
 judged_due judge program input trace old new done (inl gone) = (2, omega arith, sym gone)
 judged_due judge program input trace old new done (inr whole) = found_due whole.difference done.status whole.status_is
 
+-- ---- two programs
+
+-- a run is the one over the whole budget, since no page is spent under the default limit; or it is out of memory
+side_whole : (side : SideAsked) (program : Program) (printed : List ℕ) (bus : RunBus) (run : RunRecord) → RunsProtected (terms_of (side_run side) program []) (gathered []) (gathered printed) (new_history (side_run side).execution.file.geometry) (run_history bus) run →
+    (run_history bus).lies ≡ 0 → (run_status run ≡ status.NoMemory) ⊎ (RanSideWhole side program run × (run_status run ≡ ending_status run.ending))
+side_whole side program printed bus run runs none =
+    let without = honest_without_evidence runs none in
+    let status_is = same_run_status run without in
+    elim (memory_cases run.ending) [
+      | inl gone ↦ inl (status_is ∙ ap ending_status gone)
+      | inr had ↦ elim ((runs.ran.without_evidence without).plain.whole none (not_cut_off runs none_risen had)) [
+        | inl whole ↦ inr (whole, status_is)
+        | inr spent ↦ absurd ((runs.ran.without_evidence without).pads.unspent refl spent.0 spent.1)
+      ]
+    ]
+
+-- both runs are whole, and this is their status
+abbrev pub ArePairWhole : PairAsked → Program → Program → ℕ → RunRecord → RunBus → Second → Type 0
+ArePairWhole asked first second status run bus beside =
+    RanSideWhole asked.first first run × RanSideWhole asked.second second beside.run
+    × (status ≡ code_of (joint_status (ending_status run.ending) (ending_status beside.run.ending)))
+
+first_gone : (first second : Status) → first ≡ status.NoMemory → code_of (joint_status first second) ≡ 10
+first_gone first status.NoMemory gone = refl
+first_gone first second gone = rw gone refl
+
+both_whole : (asked : PairAsked) (first second : Program) (run : RunRecord) (bus : RunBus) (beside : Second) → (run_status run ≡ status.NoMemory) ⊎ (RanSideWhole asked.first first run × (run_status run ≡ ending_status run.ending)) →
+    (run_status beside.run ≡ status.NoMemory) ⊎ (RanSideWhole asked.second second beside.run × (run_status beside.run ≡ ending_status beside.run.ending)) →
+    (code_of (told_pair_status run beside.run (Ok tt)) ≡ 10) ⊎ ArePairWhole asked first second (code_of (told_pair_status run beside.run (Ok tt))) run bus beside
+both_whole asked first second run bus beside (inl gone) there = inl (first_gone (run_status run) (run_status beside.run) gone)
+both_whole asked first second run bus beside (inr here) (inl gone) = inl (rw gone refl)
+both_whole asked first second run bus beside (inr here) (inr there) = inr (here.0, there.0, rw (here.1, there.1) refl)
+
+-- what both programs are, they were
+paired_ready : (asked : PairAsked) (first second : Program) (old new : World) (run : RunRecord) (bus : RunBus) (beside : Second) → ReadyPair asked old.files first second → Pairs asked old.files new.files old.out new.out run bus beside (Ok tt) →
+    (run_history bus).lies ≡ 0 → beside.lies ≡ 0 →
+    (code_of (told_pair_status run beside.run (Ok tt)) ≡ 10) ⊎ ArePairWhole asked first second (code_of (told_pair_status run beside.run (Ok tt))) run bus beside
+paired_ready asked first second old new run bus beside ready pairs none second_none =
+    let same = same_program old.files (side_run asked.first).execution.file first pairs.program ready.tells ready.first_ready.program_is pairs.reads.first_is in
+    let second_same = same_program old.files (side_run asked.second).execution.file second pairs.second_program ready.tells ready.second_ready.program_is pairs.reads.second_is in
+    both_whole asked first second run bus beside
+    (side_whole asked.first first pairs.printed bus run
+    (subst (λ (p : Program). RunsProtected (terms_of (side_run asked.first) p []) (gathered []) (gathered pairs.printed) (new_history (side_run asked.first).execution.file.geometry) (run_history bus) run) same pairs.runs.side.runs) none)
+    (side_whole asked.second second pairs.second_printed beside.bus beside.run
+    (subst (λ (p : Program). RunsProtected (terms_of (side_run asked.second) p []) (gathered []) (gathered pairs.second_printed) (new_history (side_run asked.second).execution.file.geometry) (run_history beside.bus) beside.run) second_same pairs.second_runs.side.runs) (sym pairs.second_lies ∙ second_none))
+
+-- the write of what they printed did not fail
+paired_told : (asked : PairAsked) (first second : Program) (old new : World) (run : RunRecord) (bus : RunBus) (beside : Second) (written : Telling) → ReadyPair asked old.files first second → Pairs asked old.files new.files old.out new.out run bus beside written →
+    (run_history bus).lies ≡ 0 → beside.lies ≡ 0 → ¬ Rose old.out.faults new.out.faults →
+    (code_of (told_pair_status run beside.run written) ≡ 10) ⊎ ArePairWhole asked first second (code_of (told_pair_status run beside.run written)) run bus beside
+paired_told asked first second old new run bus beside (Ok _) ready pairs none second_none quiet = paired_ready asked first second old new run bus beside ready pairs none second_none
+paired_told asked first second old new run bus beside (Err Failed) ready pairs none second_none quiet = absurd (quiet pairs.written.1)
+paired_told asked first second old new run bus beside (Err no_memory) ready pairs none second_none quiet = inl refl
+
+-- all that a pair needs is accepted
+pair_ready_accepted : (asked : PairAsked) (files : FilesState) (first second : Program) → ReadyPair asked files first second → AreAccepted files (pair_needs asked)
+pair_ready_accepted asked files first second ready =
+    all_pair_accepted asked files first second ready.order ready.first_ready.script ready.second_ready.script
+    ready.first_ready.program_is ready.second_ready.program_is ready.order_is ready.first_ready.script_is ready.second_ready.script_is
+
+whole_pair_of : (course : Course) (telling : Telling) (asked : PairAsked) (first second : Program) (old new : World) → CameAbout course (Ok (to_pair asked)) old.files new.files old.out new.out → TellsCourse course old.note new.note telling →
+    ReadyPair asked old.files first second → lies_of (course_bus course) ≡ 0 → second_lies (course_second course) ≡ 0 → ¬ Rose old.files.faults new.files.faults → ¬ Rose old.out.faults new.out.faults → ¬ Rose old.note.faults new.note.faults →
+    (code_of (status_of course telling) ≡ 10) ⊎ ArePairAnd (course_run course) (course_bus course) (course_second course) (ArePairWhole asked first second (code_of (status_of course telling)))
+whole_pair_of course (Err no_memory) asked first second old new came tells ready none second_none quiet_files quiet_out quiet_note = inl refl
+whole_pair_of (Refused refusal) (Ok _) asked first second old new came tells ready none second_none quiet_files quiet_out quiet_note =
+    absurd (unrefused refusal (to_pair asked) old.files new.files ready.tells (pair_ready_accepted asked old.files first second ready) quiet_files came.0)
+whole_pair_of (Refused refusal) (Err Failed) asked first second old new came tells ready none second_none quiet_files quiet_out quiet_note = absurd (quiet_note tells.1)
+whole_pair_of NoMemory (Ok _) asked first second old new came tells ready none second_none quiet_files quiet_out quiet_note = inl refl
+whole_pair_of NoMemory (Err Failed) asked first second old new came tells ready none second_none quiet_files quiet_out quiet_note = inl refl
+whole_pair_of (Ran run bus) (Ok _) asked first second old new came tells ready none second_none quiet_files quiet_out quiet_note = absurd came
+whole_pair_of (Ran run bus) (Err Failed) asked first second old new came tells ready none second_none quiet_files quiet_out quiet_note = absurd came
+whole_pair_of (RanPlain run) (Ok _) asked first second old new came tells ready none second_none quiet_files quiet_out quiet_note = absurd came
+whole_pair_of (RanPlain run) (Err Failed) asked first second old new came tells ready none second_none quiet_files quiet_out quiet_note = absurd came
+whole_pair_of (Written written) (Ok _) asked first second old new came tells ready none second_none quiet_files quiet_out quiet_note = absurd came
+whole_pair_of (Written written) (Err Failed) asked first second old new came tells ready none second_none quiet_files quiet_out quiet_note = absurd came
+whole_pair_of OtherTag (Ok _) asked first second old new came tells ready none second_none quiet_files quiet_out quiet_note = absurd came.0
+whole_pair_of OtherTag (Err Failed) asked first second old new came tells ready none second_none quiet_files quiet_out quiet_note = absurd came.0
+whole_pair_of (RanGenerated run bus written) (Ok _) asked first second old new came tells ready none second_none quiet_files quiet_out quiet_note = absurd came
+whole_pair_of (RanGenerated run bus written) (Err Failed) asked first second old new came tells ready none second_none quiet_files quiet_out quiet_note = absurd came
+whole_pair_of (RanTraced run bus written) (Ok _) asked first second old new came tells ready none second_none quiet_files quiet_out quiet_note = absurd came
+whole_pair_of (RanTraced run bus written) (Err Failed) asked first second old new came tells ready none second_none quiet_files quiet_out quiet_note = absurd came
+whole_pair_of (Judged difference written) (Ok _) asked first second old new came tells ready none second_none quiet_files quiet_out quiet_note = absurd came
+whole_pair_of (Judged difference written) (Err Failed) asked first second old new came tells ready none second_none quiet_files quiet_out quiet_note = absurd came
+whole_pair_of (RanPair run bus beside written) (Ok _) asked first second old new came tells ready none second_none quiet_files quiet_out quiet_note =
+    paired_told asked first second old new run bus beside written ready came none second_none quiet_out
+whole_pair_of (RanPair run bus beside written) (Err Failed) asked first second old new came tells ready none second_none quiet_files quiet_out quiet_note = absurd (quiet_note tells.1)
+
+-- both runs, the first one's bus and the status are the answer's
+pair_answer : (asked : PairAsked) (first second : Program) (done : Done) (run : Option RunRecord) (bus : Option RunBus) (beside : Option Second) (status : ℕ) → done.run ≡ run → done.bus ≡ bus → done.second ≡ beside → done.status ≡ status →
+    (status ≡ 10) ⊎ ArePairAnd run bus beside (ArePairWhole asked first second status) → (done.status ≡ 10) ⊎ PairWhole asked first second done
+pair_answer asked first second done run bus beside status run_is bus_is second_is status_is (inl gone) = inl (status_is ∙ gone)
+pair_answer asked first second done run bus None status run_is bus_is second_is status_is (inr whole) = absurd whole
+pair_answer asked first second done None bus (Some beside) status run_is bus_is second_is status_is (inr whole) = absurd whole
+pair_answer asked first second done (Some run) None (Some beside) status run_is bus_is second_is status_is (inr whole) = absurd whole
+pair_answer asked first second done (Some run) (Some bus) (Some beside) status run_is bus_is second_is status_is (inr whole) = inr (rw (run_is, bus_is, second_is) (record {
+  first_whole = whole.0;
+  second_whole = whole.1;
+  status_is = status_is ∙ whole.2;
+}))
+
+pub whole_pair : {request : Result Asked WordsFault} {old new : World} {done : Done} → Outcome request old new done → (asked : PairAsked) (first second : Program) → request ≡ Ok (to_pair asked) → ReadyPair asked old.files first second →
+    Faultless (to_pair asked) old new done → second_lies done.second ≡ 0 → (done.status ≡ 10) ⊎ PairWhole asked first second done
+whole_pair {request} {old} {new} {done} o asked first second asks ready sound second_none =
+    pair_answer asked first second done (course_run o.course) (course_bus o.course) (course_second o.course) (code_of (status_of o.course o.told)) o.run o.bus o.second o.status
+    (whole_pair_of o.course o.told asked first second old new
+    (came_as o (Ok (to_pair asked)) asks) o.tells ready (sym o.lies ∙ sound.bus) (rw (← o.second) second_none) sound.files sound.out sound.note)
+
 -- ---- any request
 
 pub whole : {request : Result Asked WordsFault} {old new : World} {done : Done} → Outcome request old new done → (asked : Asked) (program : Program) (script : Option (List ScriptLine)) (input : List ℕ) →
@@ -636,6 +759,7 @@ whole {old = old} {new = new} o (to_measure file) program script input asks read
     text_whole o (to_measure file) file measurement_line program script input asks writes ready sound
 whole o (to_verify report) program script input asks ready sound = absurd ready.program_is
 whole o (to_bench number) program script input asks ready sound = absurd ready.program_is
+whole o (to_pair pair) program script input asks ready sound = absurd ready.program_is
 whole {old = old} {new = new} {done = done} o (to_trace asked) program script input asks ready sound =
     run_whole asked.execution program input done (traced_due asked program input old new done (whole_trace o asked program script input asks ready sound))
 whole {old = old} {new = new} {done = done} o (to_judge judge) program script input asks ready sound =

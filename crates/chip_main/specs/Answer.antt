@@ -11,7 +11,8 @@ use Rattle.bus_adversary.specs.ChangedPlaces.{script_may_change}
 use Rattle.bus_trace.specs.declared.verdict.Difference.{Difference}
 use Rattle.plain_machine.specs.declared.PlainRecord.{PlainRecord}
 use Rattle.chip_run.specs.declared.RunRecord.{RunRecord}
-use Rattle.chip_words.specs.Request.{Asked, ExecutionAsked, FileAsked, JudgeAsked, ReportAsked, RunAsked, WordsFault, to_bench, to_judge, to_run, to_run_plain, to_trace, to_verify}
+use Rattle.chip_words.specs.Defaults.{side_run}
+use Rattle.chip_words.specs.Request.{Asked, ExecutionAsked, FileAsked, JudgeAsked, PairAsked, ReportAsked, RunAsked, WordsFault, to_bench, to_judge, to_pair, to_run, to_run_plain, to_trace, to_verify}
 use Rattle.chip_words.specs.Texts.{plain_text, record_text, tag_differs_line}
 use Rattle.chip_files.specs.declared.refusal.Refusal.{Refusal}
 use Rattle.chip_files.specs.Needs.{needs_of}
@@ -20,13 +21,14 @@ use Rattle.chip_device.specs.declared.run_bus.RunBus.{RunBus}
 use Rattle.chip_device.specs.Buses.{bus_script}
 use Rattle.chip_device.specs.Generated.{generated_run}
 use Rattle.chip_main.specs.declared.Done.{Done}
+use Rattle.chip_main.specs.declared.second.Second.{Second}
 use Rattle.chip_main.specs.World.{World}
 use Rattle.chip_main.specs.Endings.{EndedWithoutEvidence, IsHalted}
-use Rattle.chip_main.specs.Requests.{ByCommand, FindsOtherTag, Judges, JudgesRequest, PlainlyRuns, RunsRequested, Summarizes, Traces, Writes, WritesReport, WritesRequest}
-use Rattle.chip_main.specs.Status.{IsOneOf, Telling, code_of, ending_status, judged_status, refusal_status, run_status, text_status, told_status}
+use Rattle.chip_main.specs.Requests.{ByCommand, FindsOtherTag, Judges, JudgesRequest, Pairs, PlainlyRuns, RunsRequested, Summarizes, Traces, Writes, WritesReport, WritesRequest}
+use Rattle.chip_main.specs.Status.{IsOneOf, Telling, code_of, ending_status, judged_status, refusal_status, run_status, text_status, told_pair_status, told_status}
 use Rattle.chip_main.specs.declared.status.Status.{Status}
 use Rattle.chip_main.specs.declared.status.Status.TheVariants as status
-use Rattle.chip_main.specs.Texts.{refusal_text}
+use Rattle.chip_main.specs.Texts.{pair_text, refusal_text}
 
 -- ---- a run and its bus
 
@@ -40,6 +42,25 @@ AreBothAnd (Some run) (Some bus) P = P run bus
 abbrev pub IsRunAnd : Done → (RunRecord → RunBus → Type 0) → Type 0
 IsRunAnd done P = AreBothAnd done.run done.bus P
 
+-- both programs of a pair ran, and this holds of the first one's run and bus and of the second one
+abbrev pub ArePairAnd : Option RunRecord → Option RunBus → Option Second → (RunRecord → RunBus → Second → Type 0) → Type 0
+ArePairAnd run bus None P = ⊥
+ArePairAnd run bus (Some second) P = AreBothAnd run bus (λ first first_bus. P first first_bus second)
+
+-- the same of a call's pair
+abbrev pub IsPairAnd : Done → (RunRecord → RunBus → Second → Type 0) → Type 0
+IsPairAnd done P = ArePairAnd done.run done.bus done.second P
+
+-- it halted, without evidence
+abbrev pub Halts : RunRecord → RunBus → Type 0
+Halts run bus = EndedWithoutEvidence IsHalted run bus
+
+-- What the status of a pair says: it is of the first one, unless that halted; then of the second one. Each is a run that names no
+-- option, but for its key and its script.
+abbrev pub IsOfPair : (RunAsked → RunRecord → RunBus → Type 0) → PairAsked → RunRecord → RunBus → Second → Type 0
+IsOfPair P asked run bus second =
+    (¬ Halts run bus × P (side_run asked.first) run bus) ⊎ (Halts run bus × P (side_run asked.second) second.run second.bus)
+
 -- ---- why each status comes
 
 -- the request's program ran on the plain machine, and ended so
@@ -47,13 +68,16 @@ abbrev pub PlainlyEnded : (Ending → Type 0) → ExecutionAsked → World → W
 PlainlyEnded P execution old new =
     (run : PlainRecord) × PlainlyRuns execution old.files new.files old.out new.out run × P run.ending
 
--- as the request says, a run on protected memory ended so without evidence, or one on the plain machine ended so
+-- as the request says, a run on protected memory ended so without evidence, or one on the plain machine ended so; of a pair,
+-- the one that its status is of
 abbrev pub Ended : (Ending → Type 0) → Result Asked WordsFault → World → World → Done → Type 0
 Ended P request old new done = ByCommand request (λ _. IsRunAnd done (EndedWithoutEvidence P))
     (λ execution. PlainlyEnded P execution old new) (λ _ _. ⊥) (λ _. ⊥) (λ _. IsRunAnd done (EndedWithoutEvidence P))
     (λ _. IsRunAnd done (EndedWithoutEvidence P)) (λ _. ⊥)
+    (λ asked. IsPairAnd done (IsOfPair (λ _. EndedWithoutEvidence P) asked))
 
--- a run halted, or the request's text was written whole, or the request's trace follows, and that was written whole
+-- a run halted, of a pair both did, or the request's text was written whole, or the request's trace follows, and that was
+-- written whole
 abbrev pub IsDone : Result Asked WordsFault → World → World → Done → Type 0
 IsDone request old new done = Ended IsHalted request old new done
     ⊎ WritesRequest request old.files new.files old.out new.out (Ok tt)
@@ -64,11 +88,12 @@ abbrev pub FoundNo : Result Asked WordsFault → World → World → Type 0
 FoundNo request old new =
     (difference : Difference) × JudgesRequest request old.files new.files old.out new.out (Some difference) (Ok tt)
 
--- the request is for a run on protected memory, of a generated program or for a trace too, and this holds of what it asks,
--- of that run and of its bus
+-- the request is for a run on protected memory, of a generated program, for a trace or of a pair too, and this holds of what it
+-- asks, of that run and of its bus; of a pair, of the run that its status is of
 abbrev pub RanAnd : (RunAsked → RunRecord → RunBus → Type 0) → Result Asked WordsFault → Done → Type 0
 RanAnd P request done = ByCommand request (λ asked. IsRunAnd done (P asked)) (λ _. ⊥) (λ _ _. ⊥) (λ _. ⊥)
     (λ _. IsRunAnd done (P generated_run)) (λ asked. IsRunAnd done (P asked)) (λ _. ⊥)
+    (λ asked. IsPairAnd done (IsOfPair P asked))
 
 -- one of the files was refused, for its length or its form
 abbrev pub FileRefused : Result Asked WordsFault → FilesState → FilesState → Type 0
@@ -106,6 +131,15 @@ abbrev pub TellsTraced : ℕ → RunRecord → Telling → ℕ → SinkState →
 TellsTraced number run telling lies old new = TellsEnding
     (record_text run.ending run.retired lies run.made run.evidence run.report) (told_status run telling) run.ending number
     old new
+
+-- The records of two programs that shared the core were told, with so many lies of each bus, and with the status that they have
+-- then, where what they printed was written so far; or a front part of that, where a write failed or there was no memory.
+abbrev pub TellsPair : ℕ → RunRecord → ℕ → RunRecord → ℕ → Telling → SinkState → SinkState → Type 0
+TellsPair number first lies second second_lies telling old new =
+    (Gains old (pair_text first lies second second_lies) new × (number ≡ code_of (told_pair_status first second telling)))
+    ⊎ (GainsFront old (pair_text first lies second second_lies) new
+    × (((number ≡ code_of status.WriteFault) × (first.ending ≢ NoMemory) × (second.ending ≢ NoMemory) × Rose old.faults new.faults)
+    ⊎ (number ≡ code_of status.NoMemory)))
 
 -- a plain run's record was written; a prefix of it where a write failed or out of memory
 abbrev pub TellsPlain : ℕ → PlainRecord → SinkState → SinkState → Type 0
@@ -203,6 +237,15 @@ pub record DeliversVerdict (judge : JudgeAsked) (old new : World) (done : Done) 
   pub no_run : done.run ≡ None
   pub silent : IsSilent old.note new.note
 
+-- the request's two programs shared the core, what they printed was written as far as the status says, and their records were told
+pub record PairedAndTold (asked : PairAsked) (old new : World) (done : Done) (run : RunRecord) (bus : RunBus) (second : Second)
+    : Type 0 where
+  pub telling : Telling
+  pub pairs : Pairs asked old.files new.files old.out new.out run bus second telling
+  pub by_script : TampersByScript run bus
+  pub second_by_script : TampersByScript second.run second.bus
+  pub tells : TellsPair done.status run done.lies second.run second.lies telling old.note new.note
+
 -- what each command gives, or nothing was done
 abbrev pub GivesRun : RunAsked → World → World → Done → Type 0
 GivesRun asked old new done =
@@ -236,3 +279,8 @@ GivesTraced asked old new done =
 abbrev pub GivesVerdict : JudgeAsked → World → World → Done → Type 0
 GivesVerdict judge old new done =
     DeliversVerdict judge old new done ⊎ Undone (Ok (to_judge judge)) old new done
+
+-- the two programs shared the core, or nothing was done
+abbrev pub GivesPair : PairAsked → World → World → Done → Type 0
+GivesPair asked old new done =
+    IsPairAnd done (PairedAndTold asked old new done) ⊎ Undone (Ok (to_pair asked)) old new done

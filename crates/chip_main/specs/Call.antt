@@ -4,7 +4,7 @@ use Rattle.sec_base.specs.Count.{Rose}
 use Rattle.adversary_script.specs.declared.script.ScriptLine.{ScriptLine}
 use Rattle.sec_base.specs.Program.{Program}
 use Rattle.bus_trace.specs.declared.trace.Trace.{Trace}
-use Rattle.chip_words.specs.Request.{Asked, ExecutionAsked, FileAsked, JudgeAsked, ReportAsked, RunAsked, WordsFault, to_assemble, to_bench, to_disassemble, to_judge, to_measure, to_run, to_run_plain, to_trace, to_verify}
+use Rattle.chip_words.specs.Request.{Asked, ExecutionAsked, FileAsked, JudgeAsked, PairAsked, ReportAsked, RunAsked, WordsFault, to_assemble, to_bench, to_disassemble, to_judge, to_measure, to_pair, to_run, to_run_plain, to_trace, to_verify}
 use Rattle.workload_gen.specs.Workload.{workload_of}
 use Rattle.chip_files.specs.Needs.{Need, HasTold, IsAccepted, IsUnfit, needs_of, report_need}
 use Rattle.chip_files.specs.Causes.{AsksNothing, Stops}
@@ -17,12 +17,12 @@ use Rattle.chip_main.specs.Requests.{OtherTagRequest}
 use Rattle.chip_main.specs.Endings.{IsTrapped, IsOutOfSteps, EndedTampered, EndedSpent, EndedWithEvidence}
 use Rattle.chip_main.specs.Texts.{elf_file, listing, measurement_line}
 use Rattle.chip_main.specs.Status.{IsOneOf, IsResult, IsStatus, code_of}
-use Rattle.chip_main.specs.Answer.{Ended, FileRefused, FoundNo, GivesPlainRun, GivesReport, GivesRun, GivesSummary, GivesText, GivesTraced, GivesVerdict, IsDone, RanAnd, Undone}
-use Rattle.chip_main.specs.Whole.{Faultless, JudgedWhole, RanWhole, Ready, TracedWhole, verdict_status, whole_statuses}
+use Rattle.chip_main.specs.Answer.{Ended, FileRefused, FoundNo, GivesPair, GivesPlainRun, GivesReport, GivesRun, GivesSummary, GivesText, GivesTraced, GivesVerdict, IsDone, RanAnd, Undone}
+use Rattle.chip_main.specs.Whole.{Faultless, JudgedWhole, PairWhole, RanWhole, Ready, ReadyPair, TracedWhole, second_lies, verdict_status, whole_statuses}
 use Rattle.chip_main.specs.declared.Done.{Done}
 use Rattle.chip_main.specs.declared.status.Status.TheVariants as status
 
--- What each status says. WriteFault and NoMemory come of all nine commands, Refused and ReadFault of the eight that read
+-- What each status says. WriteFault and NoMemory come of all ten commands, Refused and ReadFault of the nine that read
 -- files.
 pub record SaysStatus (request : Result Asked WordsFault) (old new : World) (answer : Done) : Type 0 where
   pub statuses : IsStatus answer.status
@@ -31,7 +31,7 @@ pub record SaysStatus (request : Result Asked WordsFault) (old new : World) (ans
   pub usage : answer.status ≡ code_of status.Usage → IsErr request
   pub refused : answer.status ≡ code_of status.Refused → FileRefused request old.files new.files
   pub out_of_steps : answer.status ≡ code_of status.OutOfSteps → Ended IsOutOfSteps request old new answer
-  pub tampered : answer.status ≡ code_of status.Tampered → RanAnd EndedTampered request answer × (answer.lies ≡ 1)
+  pub tampered : answer.status ≡ code_of status.Tampered → RanAnd EndedTampered request answer
   pub spent : answer.status ≡ code_of status.Spent → RanAnd EndedSpent request answer
   pub evidence : answer.status ≡ code_of status.Evidence → RanAnd EndedWithEvidence request answer
   pub tag_differs : answer.status ≡ code_of status.TagDiffers → OtherTagRequest request old.files new.files
@@ -50,7 +50,9 @@ pub record SaysStatus (request : Result Asked WordsFault) (old new : World) (ans
 -- measurement is written. What a report says is written where the device of the request's key made it, and else it is
 -- told that its tag differs. A generated program runs as a requested one does, over an honest bus, and its summary is
 -- written. For a trace a program runs as it does for a run, its trace is written where the run has one, and its record is
--- told; of a trace that is judged the verdict is written. Or nothing was done, since there was a refusal or no memory.
+-- told; of a trace that is judged the verdict is written. Two programs that share the core each run over a bus of their own, and
+-- without evidence each comes to what it comes to alone; what they print is written, and both records are told. Or nothing was
+-- done, since there was a refusal or no memory.
 -- Words that are no request, or have a value that doesn't have its form, are refused, and nothing is asked of the files.
 pub record GivesAsked (request : Result Asked WordsFault) (old new : World) (answer : Done) : Type 0 where
   pub none : (fault : WordsFault) → request ≡ Err fault →
@@ -68,6 +70,7 @@ pub record GivesAsked (request : Result Asked WordsFault) (old new : World) (ans
   pub bench : (number : ℕ) → request ≡ Ok (to_bench number) → GivesSummary number old new answer
   pub trace : (asked : RunAsked) → request ≡ Ok (to_trace asked) → GivesTraced asked old new answer
   pub judge : (asked : JudgeAsked) → request ≡ Ok (to_judge asked) → GivesVerdict asked old new answer
+  pub pair : (asked : PairAsked) → request ≡ Ok (to_pair asked) → GivesPair asked old new answer
 
 -- What is due by what the files tell.
 pub record GivesDue (request : Result Asked WordsFault) (old new : World) (answer : Done) : Type 0 where
@@ -100,3 +103,7 @@ pub record GivesDue (request : Result Asked WordsFault) (old new : World) (answe
       request ≡ Ok (to_judge asked) → Ready (to_judge asked) old.files program None input →
       IsTraceFile old.files asked.execution.file.geometry asked.trace trace → Faultless (to_judge asked) old new answer →
       (answer.status ≡ code_of status.NoMemory) ⊎ JudgedWhole asked program input trace old new answer
+  -- two programs that share the core run as they do on the plain machine, or there was no memory
+  pub whole_pair : (asked : PairAsked) (first second : Program) → request ≡ Ok (to_pair asked) → ReadyPair asked old.files first second →
+      Faultless (to_pair asked) old new answer → second_lies answer.second ≡ 0 →
+      (answer.status ≡ code_of status.NoMemory) ⊎ PairWhole asked first second answer

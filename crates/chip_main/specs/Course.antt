@@ -14,11 +14,12 @@ use Rattle.chip_device.specs.declared.run_bus.RunBus.{RunBus}
 use Rattle.chip_device.specs.Buses.{LiesByScript, run_history, lies_of}
 use Rattle.chip_main.specs.declared.Done.{Done}
 use Rattle.chip_main.specs.declared.course.Course.{Course}
-use Rattle.chip_main.specs.declared.course.Course.TheVariants.{Refused, NoMemory, Ran, RanPlain, Written, OtherTag, RanGenerated, RanTraced, Judged}
+use Rattle.chip_main.specs.declared.course.Course.TheVariants.{Refused, NoMemory, Ran, RanPlain, Written, OtherTag, RanGenerated, RanTraced, Judged, RanPair}
+use Rattle.chip_main.specs.declared.second.Second.{Second}
 use Rattle.chip_main.specs.World.{World}
-use Rattle.chip_main.specs.Requests.{JudgesRequest, OtherTagRequest, PlainlyRunsRequest, RunsRequest, SummarizesRequest, TracesRequest, WritesRequest}
-use Rattle.chip_main.specs.Texts.{refusal_text}
-use Rattle.chip_main.specs.Status.{IsResult, Telling, code_of, ending_status, judged_status, refusal_status, run_status, text_status, told_status, untold_ending_status, untold_told_status}
+use Rattle.chip_main.specs.Requests.{JudgesRequest, OtherTagRequest, PairsRequest, PlainlyRunsRequest, RunsRequest, SummarizesRequest, TracesRequest, WritesRequest}
+use Rattle.chip_main.specs.Texts.{pair_text, refusal_text}
+use Rattle.chip_main.specs.Status.{IsResult, Telling, code_of, ending_status, judged_status, refusal_status, run_status, text_status, told_pair_status, told_status, untold_ending_status, untold_told_pair_status, untold_told_status}
 use Rattle.chip_main.specs.declared.status.Status.{Status}
 use Rattle.chip_main.specs.declared.status.Status.TheVariants.{NoMemory as out_of_memory, TagDiffers, WriteFault}
 
@@ -34,6 +35,8 @@ CameAbout (RanGenerated run bus telling) request files files' out out' =
     SummarizesRequest request files files' out out' run bus telling
 CameAbout (RanTraced run bus telling) request files files' out out' = TracesRequest request files files' out out' run bus telling
 CameAbout (Judged difference telling) request files files' out out' = JudgesRequest request files files' out out' difference telling
+CameAbout (RanPair run bus second telling) request files files' out out' =
+    PairsRequest request files files' out out' run bus second telling
 
 -- what a call comes to where a stop ended it
 abbrev pub stopped_course : Stop → Course
@@ -57,8 +60,10 @@ TellsCourse (RanGenerated run bus written) old new telling = TellsNothing old ne
 TellsCourse (RanTraced run bus written) old new telling =
     IsWritten (record_text run.ending run.retired (run_history bus).lies run.made run.evidence run.report) old new telling
 TellsCourse (Judged difference written) old new telling = TellsNothing old new telling
+TellsCourse (RanPair run bus second written) old new telling =
+    IsWritten (pair_text run (run_history bus).lies second.run second.lies) old new telling
 
--- the record of a run on protected memory and its bus, where there was one
+-- the record of a run on protected memory, where there was one; of a pair, the first one's
 abbrev pub course_run : Course → Option RunRecord
 course_run (Refused refusal) = None
 course_run NoMemory = None
@@ -69,8 +74,9 @@ course_run OtherTag = None
 course_run (RanGenerated run bus telling) = Some run
 course_run (RanTraced run bus telling) = Some run
 course_run (Judged difference telling) = None
+course_run (RanPair run bus second telling) = Some run
 
--- the bus of a run on protected memory, where there was one
+-- the bus of a run on protected memory, where there was one; of a pair, the first one's
 abbrev pub course_bus : Course → Option RunBus
 course_bus (Refused refusal) = None
 course_bus NoMemory = None
@@ -81,6 +87,20 @@ course_bus OtherTag = None
 course_bus (RanGenerated run bus telling) = Some bus
 course_bus (RanTraced run bus telling) = Some bus
 course_bus (Judged difference telling) = None
+course_bus (RanPair run bus second telling) = Some bus
+
+-- the second one of two programs that shared the core
+abbrev pub course_second : Course → Option Second
+course_second (Refused refusal) = None
+course_second NoMemory = None
+course_second (Ran run bus) = None
+course_second (RanPlain run) = None
+course_second (Written telling) = None
+course_second OtherTag = None
+course_second (RanGenerated run bus telling) = None
+course_second (RanTraced run bus telling) = None
+course_second (Judged difference telling) = None
+course_second (RanPair run bus second telling) = Some second
 
 -- the status, where it was told whole
 abbrev pub course_status : Course → Status
@@ -93,6 +113,7 @@ course_status OtherTag = TagDiffers
 course_status (RanGenerated run bus telling) = told_status run telling
 course_status (RanTraced run bus telling) = told_status run telling
 course_status (Judged difference telling) = judged_status difference telling
+course_status (RanPair run bus second telling) = told_pair_status run second.run telling
 
 -- a refusal that could not be told keeps its status
 abbrev pub untold_status : Course → Status
@@ -105,6 +126,7 @@ untold_status OtherTag = WriteFault
 untold_status (RanGenerated run bus telling) = told_status run telling
 untold_status (RanTraced run bus telling) = untold_told_status run telling
 untold_status (Judged difference telling) = judged_status difference telling
+untold_status (RanPair run bus second telling) = untold_told_pair_status run second.run telling
 
 -- the status of the process
 abbrev pub status_of : Course → Telling → Status
@@ -125,3 +147,4 @@ pub record Outcome (request : Result Asked WordsFault) (old new : World) (done :
   pub bus : done.bus ≡ course_bus course
   pub lies : done.lies ≡ lies_of (course_bus course)
   pub by_script : IfSome (course_bus course) LiesByScript
+  pub second : done.second ≡ course_second course

@@ -82,6 +82,7 @@ refusal_status (refusal.Asm line fault) = Refused
 refusal_status (refusal.Script line fault) = Refused
 refusal_status (refusal.Report fault) = Refused
 refusal_status (refusal.Trace fault) = Refused
+refusal_status (refusal.Order error) = Refused
 
 -- the answer of a call that writes a text
 abbrev pub Telling : Type 0
@@ -98,6 +99,37 @@ abbrev pub untold_told_status : RunRecord → Telling → Status
 untold_told_status run (Ok _) = untold_ending_status run.ending
 untold_told_status run (Err sink.Failed) = untold_ending_status run.ending
 untold_told_status run (Err sink.NoMemory) = NoMemory
+
+-- the first status, unless that is `Done`: then the second
+abbrev pub first_undone : Status → Status → Status
+first_undone Done second = second
+first_undone first second = first
+
+-- of two programs that shared the core, by the status of each: out of memory where either is; else the first one's, unless that
+-- is `Done`, and then the second one's
+abbrev pub joint_status : Status → Status → Status
+joint_status first NoMemory = NoMemory
+joint_status first second = first_undone first second
+
+-- the same of their runs, where their records were written whole
+abbrev pub pair_status : RunRecord → RunRecord → Status
+pair_status first second = joint_status (run_status first) (run_status second)
+
+-- where something of two programs could not be written, that is a write fault; being out of memory goes before
+abbrev pub untold_pair_status : RunRecord → RunRecord → Status
+untold_pair_status first second = joint_status (untold_ending_status first.ending) (untold_ending_status second.ending)
+
+-- of two programs whose records were written whole, and what they printed so far
+abbrev pub told_pair_status : RunRecord → RunRecord → Telling → Status
+told_pair_status first second (Ok _) = pair_status first second
+told_pair_status first second (Err sink.Failed) = untold_pair_status first second
+told_pair_status first second (Err sink.NoMemory) = NoMemory
+
+-- the same, where their records could not be written
+abbrev pub untold_told_pair_status : RunRecord → RunRecord → Telling → Status
+untold_told_pair_status first second (Ok _) = untold_pair_status first second
+untold_told_pair_status first second (Err sink.Failed) = untold_pair_status first second
+untold_told_pair_status first second (Err sink.NoMemory) = NoMemory
 
 -- of a command that is only for a text on `out`
 abbrev pub text_status : Telling → Status

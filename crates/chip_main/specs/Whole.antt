@@ -11,17 +11,19 @@ use Rattle.bus_trace.specs.declared.verdict.Difference.{Difference}
 use Rattle.chip_run.specs.declared.RunRecord.{RunRecord}
 use Rattle.rv32_core.specs.Machine.{plain}
 use Rattle.rv32_core.specs.Follows.{IsWhole, ending_at}
-use Rattle.chip_words.specs.Request.{Asked, ExecutionAsked, FileAsked, JudgeAsked, RunAsked, asked_program, to_assemble, to_bench, to_disassemble, to_judge, to_measure, to_run, to_run_plain, to_trace, to_verify}
+use Rattle.chip_words.specs.Defaults.{side_run}
+use Rattle.chip_words.specs.Request.{Asked, ExecutionAsked, FileAsked, JudgeAsked, PairAsked, RunAsked, SideAsked, asked_program, to_assemble, to_bench, to_disassemble, to_judge, to_measure, to_pair, to_run, to_run_plain, to_trace, to_verify}
 use Rattle.chip_main.specs.declared.Done.{Done}
+use Rattle.chip_main.specs.declared.second.Second.{Second}
 use Rattle.chip_main.specs.World.{World}
 use Rattle.sec_base.specs.Program.{Program}
-use Rattle.chip_files.specs.Taken.{IsInput, IsProgram, IsScript, IsTraceFile, Tell}
+use Rattle.chip_files.specs.Taken.{IsInput, IsOrderOf, IsProgram, IsScript, IsTraceFile, Tell}
 use Rattle.chip_device.specs.declared.run_bus.RunBus.{RunBus}
 use Rattle.chip_device.specs.Device.{opening}
 use Rattle.chip_device.specs.Judged.{IsJudged}
-use Rattle.chip_main.specs.Answer.{IsRunAnd}
+use Rattle.chip_main.specs.Answer.{IsPairAnd, IsRunAnd}
 use Rattle.chip_main.specs.Requests.{Traces}
-use Rattle.chip_main.specs.Status.{code_of, ending_status, found_status}
+use Rattle.chip_main.specs.Status.{code_of, ending_status, found_status, joint_status}
 use Rattle.chip_main.specs.Texts.{verdict_line}
 use Rattle.chip_main.specs.declared.status.Status.{Status}
 use Rattle.chip_main.specs.declared.status.Status.TheVariants.{Done as done_status, Refused, Spent, NoMemory, TagDiffers, JudgedNo}
@@ -42,6 +44,7 @@ asked_input (to_verify report) = None
 asked_input (to_bench number) = None
 asked_input (to_trace asked) = asked.execution.input
 asked_input (to_judge judge) = judge.execution.input
+asked_input (to_pair pair) = None
 
 -- the script is that of the file that a run names, and there is none where none is named
 abbrev pub IsAskedScript : FilesState → Asked → Option (List ScriptLine) → Type 0
@@ -54,6 +57,7 @@ IsAskedScript files (to_verify report) script = script ≡ None
 IsAskedScript files (to_bench number) script = script ≡ None
 IsAskedScript files (to_trace asked) script = IsScript files asked.execution.file.geometry asked.script script
 IsAskedScript files (to_judge judge) script = script ≡ None
+IsAskedScript files (to_pair pair) script = script ≡ None
 
 -- the file that is to be judged is a trace
 abbrev pub HasAskedTrace : FilesState → Asked → Type 0
@@ -67,6 +71,7 @@ HasAskedTrace files (to_bench number) = Unit {0}
 HasAskedTrace files (to_trace asked) = Unit {0}
 HasAskedTrace files (to_judge judge) =
     (trace : Trace) × IsTraceFile files judge.execution.file.geometry judge.trace trace
+HasAskedTrace files (to_pair pair) = Unit {0}
 
 -- the files tell all that a request for a program needs, in its form: this program, this script and this input, and a trace
 -- where one is judged
@@ -88,8 +93,9 @@ NoteFaultless (to_verify report) old new = ¬ (Rose old.faults new.faults)
 NoteFaultless (to_bench number) old new = Unit {0}
 NoteFaultless (to_trace asked) old new = ¬ (Rose old.faults new.faults)
 NoteFaultless (to_judge judge) old new = Unit {0}
+NoteFaultless (to_pair pair) old new = ¬ (Rose old.faults new.faults)
 
--- no read failed, no write did whose failure the status tells, and no answer of a bus was false
+-- no read failed, no write did whose failure the status tells, and no answer of the bus was false; of a pair, of the first one's
 pub record Faultless (asked : Asked) (old new : World) (done : Done) : Type 0 where
   pub files : ¬ (Rose old.files.faults new.files.faults)
   pub out : ¬ (Rose old.out.faults new.out.faults)
@@ -113,6 +119,7 @@ whole_statuses (to_verify report) program input = []
 whole_statuses (to_bench number) program input = []
 whole_statuses (to_trace asked) program input = plain_status asked.execution program input ∷ Spent ∷ NoMemory ∷ []
 whole_statuses (to_judge judge) program input = done_status ∷ JudgedNo ∷ NoMemory ∷ []
+whole_statuses (to_pair pair) program input = []
 
 -- the status that is due of a report with this verdict
 abbrev pub verdict_status : Option ReportError → Status
@@ -146,3 +153,38 @@ pub record JudgedWhole (judge : JudgeAsked) (program : Program) (input : List �
   pub verdict : IsJudged (opening judge.execution.file.geometry program input) judge.execution.steps trace difference
   pub written : Gains old.out (verdict_line difference) new.out
   pub status_is : done.status ≡ code_of (found_status difference)
+
+-- the files tell all that one of two programs needs, in its form: this program, and its script
+pub record ReadySide (side : SideAsked) (files : FilesState) (program : Program) : Type 0 where
+  pub program_is : IsProgram files (side_run side).execution.file program
+  pub script : Option (List ScriptLine)
+  pub script_is : IsScript files (side_run side).execution.file.geometry side.script script
+
+-- the files tell all that two programs need that are to share the core, in its form: these programs, and the order of their turns
+pub record ReadyPair (asked : PairAsked) (files : FilesState) (first second : Program) : Type 0 where
+  pub tells : Tell files
+  pub first_ready : ReadySide asked.first files first
+  pub second_ready : ReadySide asked.second files second
+  pub order : List ℕ
+  pub order_is : IsOrderOf files asked.order order
+
+-- how many answers of the second one's bus were false: none where there is no second one
+abbrev pub second_lies : Option Second → ℕ
+second_lies None = 0
+second_lies (Some second) = second.lies
+
+-- the run of one of two programs is the plain machine's over the whole budget, on no input
+abbrev pub RanSideWhole : SideAsked → Program → RunRecord → Type 0
+RanSideWhole side program run = IsWhole (opening (side_run side).execution.file.geometry program [])
+    (side_run side).execution.steps run.retired run.ending
+
+-- both runs are the plain machine's over the whole budget, and the status is that of the two
+pub record PairedWhole (asked : PairAsked) (first second : Program) (done : Done) (run : RunRecord) (bus : RunBus) (beside : Second)
+    : Type 0 where
+  pub first_whole : RanSideWhole asked.first first run
+  pub second_whole : RanSideWhole asked.second second beside.run
+  pub status_is : done.status ≡ code_of (joint_status (ending_status run.ending) (ending_status beside.run.ending))
+
+-- the same of a call's pair
+abbrev pub PairWhole : PairAsked → Program → Program → Done → Type 0
+PairWhole asked first second done = IsPairAnd done (PairedWhole asked first second done)

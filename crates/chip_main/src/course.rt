@@ -3,6 +3,7 @@ ghost use Rattle.std.specs.Prelude.{◌≡◌};
 ghost use Rattle.std.specs.Option.{option_map};
 ghost use Rattle.chip_main.specs.Status as spec;
 
+use crate::second::Second;
 use crate::status::Status;
 use bus_trace::Difference;
 use chip_device::RunBus;
@@ -32,10 +33,12 @@ pub enum Course {
     RanTraced(RunRecord, RunBus, Result<(), SinkStop>),
     /// A trace was judged, which differs first so, where it does, and the verdict was written, as far as this says.
     Judged(Option<Difference>, Result<(), SinkStop>),
+    /// Two programs shared the core, the first one over this bus, and what they printed was written, as far as this says.
+    RanPair(RunRecord, RunBus, Second, Result<(), SinkStop>),
 }
 
 impl Course {
-    ghost use Rattle.chip_main.specs.Course.{course_bus, course_run, course_status, stopped_course, untold_status};
+    ghost use Rattle.chip_main.specs.Course.{course_bus, course_run, course_second, course_status, stopped_course, untold_status};
 
     /// What a call comes to where this stop ended it.
     pub fn stopped(stop: Stop) -> Self
@@ -62,6 +65,9 @@ impl Course {
                 told_status(run, *written)
             }
             Course::Judged(difference, written) => judged_status(*difference, *written),
+            Course::RanPair(run, _, second, written) => {
+                told_pair_status(run, &second.run, *written)
+            }
         }
     }
 
@@ -79,18 +85,23 @@ impl Course {
             Course::RanGenerated(run, _, written) => told_status(run, *written),
             Course::RanTraced(run, _, written) => untold_told_status(run, *written),
             Course::Judged(difference, written) => judged_status(*difference, *written),
+            Course::RanPair(run, _, second, written) => {
+                untold_told_pair_status(run, &second.run, *written)
+            }
         }
     }
 
-    /// The run on protected memory and its bus, where there was one.
-    pub fn into_run(self) -> Option<(RunRecord, RunBus)>
+    /// The run on protected memory and its bus, where there was one; of a pair, with the second one.
+    pub fn into_run(self) -> Option<(RunRecord, RunBus, Option<Second>)>
         ensures run { option_map (λ ran. ran.0) result ≡ course_run self }
         ensures bus { option_map (λ ran. ran.1) result ≡ course_bus self }
+        ensures second { option_map (λ ran. ran.2) result ≡ option_map (λ _. course_second self) (course_run self) }
     {
         match self {
             Course::Ran(run, bus)
             | Course::RanGenerated(run, bus, _)
-            | Course::RanTraced(run, bus, _) => Some((run, bus)),
+            | Course::RanTraced(run, bus, _) => Some((run, bus, None)),
+            Course::RanPair(run, bus, second, _) => Some((run, bus, Some(second))),
             Course::Refused(_)
             | Course::NoMemory
             | Course::RanPlain(_)
@@ -112,7 +123,8 @@ fn refusal_status(refusal: &Refusal) -> Status
         | Refusal::Asm { .. }
         | Refusal::Script { .. }
         | Refusal::Report(_)
-        | Refusal::Trace(_) => Status::Refused,
+        | Refusal::Trace(_)
+        | Refusal::Order(_) => Status::Refused,
     }
 }
 
@@ -143,6 +155,59 @@ fn untold_told_status(run: &RunRecord, written: Result<(), SinkStop>) -> Status
     match written {
         Ok(()) | Err(SinkStop::Failed) => untold_ending_status(run.ending),
         Err(SinkStop::NoMemory) => Status::NoMemory,
+    }
+}
+
+// The status of two programs that shared the core and whose records are told, by what they printed, as far as it was written.
+fn told_pair_status(first: &RunRecord, second: &RunRecord, written: Result<(), SinkStop>) -> Status
+    ensures { result ≡ spec.told_pair_status first.now second.now written }
+{
+    match written {
+        Ok(()) => joint_status(run_status(first), run_status(second)),
+        Err(SinkStop::Failed) => untold_pair_status(first.ending, second.ending),
+        Err(SinkStop::NoMemory) => Status::NoMemory,
+    }
+}
+
+// The same, where their records could not be told.
+fn untold_told_pair_status(
+    first: &RunRecord,
+    second: &RunRecord,
+    written: Result<(), SinkStop>,
+) -> Status
+    ensures { result ≡ spec.untold_told_pair_status first.now second.now written }
+{
+    match written {
+        Ok(()) | Err(SinkStop::Failed) => untold_pair_status(first.ending, second.ending),
+        Err(SinkStop::NoMemory) => Status::NoMemory,
+    }
+}
+
+// The status of two programs that shared the core, by the endings of both, where something of them could not be written.
+fn untold_pair_status(first: Ending, second: Ending) -> Status
+    ensures { result ≡ spec.joint_status (spec.untold_ending_status first)
+        (spec.untold_ending_status second) }
+{
+    joint_status(untold_ending_status(first), untold_ending_status(second))
+}
+
+// Out of memory where either is; else the first status, unless that is `Done`, and then the second.
+fn joint_status(first: Status, second: Status) -> Status
+    ensures { result ≡ spec.joint_status first second }
+{
+    match second {
+        Status::NoMemory => Status::NoMemory,
+        _ => first_undone(first, second),
+    }
+}
+
+// The first status, unless that is `Done`: then the second.
+fn first_undone(first: Status, second: Status) -> Status
+    ensures { result ≡ spec.first_undone first second }
+{
+    match first {
+        Status::Done => second,
+        _ => first,
     }
 }
 

@@ -8,12 +8,14 @@ ghost use Rattle.chip_files.specs.Causes.{AsksFront};
 ghost use Rattle.chip_files.specs.Needs.{needs_of};
 ghost use Rattle.chip_device.specs.Buses.{LiesByScript, lies_of, script_followed};
 ghost use Rattle.chip_main.specs.Call.{GivesAsked, GivesDue, SaysStatus};
-ghost use Rattle.chip_main.specs.Course.{course_bus, course_run, status_of};
+ghost use Rattle.chip_main.specs.Course.{course_bus, course_run, course_second, status_of};
+ghost use Rattle.chip_main.specs.Requests.{AsksPair};
 ghost use Rattle.chip_main.specs.Status.{code_of};
 ghost use Rattle.chip_main.specs.World.{world};
 
 mod course;
 mod perform;
+mod second;
 mod status;
 mod telling;
 mod writing;
@@ -23,6 +25,7 @@ use chip_run::RunRecord;
 use course::Course;
 use perform::perform;
 use sec_base::{Files, Sink, SinkStop};
+pub use second::Second;
 pub use status::Status;
 use std::alloc::Global;
 use telling::tell;
@@ -32,12 +35,14 @@ use telling::tell;
 pub struct Done {
     /// The number of the status of the process.
     pub status: u8,
-    /// The run on protected memory, where there was one.
+    /// The run on protected memory, where there was one; of two programs, the first one's.
     pub run: Option<RunRecord>,
     /// How many answers of its bus were false.
     pub lies: u64,
     /// The run's bus, as it stands at the end.
     pub bus: Option<RunBus>,
+    /// The second one of two programs that shared the core: run, lies and bus are the first one's.
+    pub second: Option<Second>,
 }
 
 /// Does what the words of the process ask for, the program's name first, as `clap` reads them.
@@ -56,8 +61,14 @@ pub struct Done {
 ///   of memory.
 /// - `judge FILE TRACE` says whether the reads of a trace are true, but for a last one that ended its run as tampered, and
 ///   the plain machine allows the rest, or how it first differs.
+/// - `pair FILE1 FILE2` runs two programs that share the core, turn by turn, each in a memory of its own and on the terms that
+///   `run` has by default. `--order FILE` names whose turn it is, a byte 0 or 1 a turn, over and over: of none they take turns,
+///   the first one first. `--script FILE` and `--script2 FILE` name what adversaries do to the memories outside the chip, and
+///   `--key HEX` and `--key2 HEX` are the keys, which differ. `out` gets what the first one printed and then what the second
+///   one did, `note` the record of the first, a line, and that of the second. The status is the first one's, unless that
+///   halted, and then the second one's; out of memory goes before.
 ///
-/// But for `asm`, a program is an ELF file, or with `--flat` has the program's bytes and nothing else. `--layout N`, 1 or
+/// But for `asm` and `pair`, a program is an ELF file, or with `--flat` has the program's bytes and nothing else. `--layout N`, 1 or
 /// 2, and `--levels L`, 1 to 8 or to 5, say how large the memory is. Of `run`, `plain`, `trace` and `judge`, `--input
 /// FILE` names the program's input and `--steps N` how many instructions may be retired. Of `run`, `trace` and `verify`,
 /// `--key HEX` is the key of the device. What is printed or made goes to `out`, the rest to `note`: of `trace`, `out`
@@ -87,6 +98,10 @@ pub fn run_words<F: Files, O: Sink, N: Sink>(
     ensures by_script { IfSome result.bus LiesByScript }
     ensures honest { script_followed result.bus ≡ [] → result.lies ≡ 0 }
 
+    // There is a second run just where two programs shared the core.
+    ensures second { IsSome result.second
+        ↔ (IsSome result.run × AsksPair (request_of (texts words.now))) }
+
     // The first of the request's files were asked for, in order, each once. None changes, and no fault is taken back.
     ensures asked { AsksFront (needs_of (request_of (texts words.now))) (F.state files.old)
         (F.state files.new) }
@@ -107,6 +122,7 @@ fn conclude(course: Course, told: Result<(), SinkStop>) -> Done
     ensures bus { result.bus ≡ course_bus course }
     ensures lies { result.lies ≡ lies_of (course_bus course) }
     ensures by_script { IfSome (course_bus course) LiesByScript }
+    ensures second { result.second ≡ course_second course }
 {
     let status = match told {
         Ok(()) => course.status(),
@@ -115,17 +131,19 @@ fn conclude(course: Course, told: Result<(), SinkStop>) -> Done
     };
     let status = status.code();
     match course.into_run() {
-        Some((run, bus)) => Done {
+        Some((run, bus, second)) => Done {
             status,
             run: Some(run),
             lies: bus.lies(),
             bus: Some(bus),
+            second,
         },
         None => Done {
             status,
             run: None,
             lies: 0,
             bus: None,
+            second: None,
         },
     }
 }

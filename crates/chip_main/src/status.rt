@@ -5,7 +5,7 @@ ghost use Rattle.chip_main.specs.Status.{code_of};
 /// The status of the process.
 #[derive(Clone, Copy, Debug, PartialEq, Eq)]
 pub enum Status {
-    /// A program halted, a text was written, or a trace follows.
+    /// A program halted, or both of two did, a text was written, or a trace follows.
     Done = 0,
     /// A program trapped.
     Trapped = 1,

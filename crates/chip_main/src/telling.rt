@@ -1,17 +1,19 @@
 // What is told of a call.
 ghost use Rattle.std.specs.Prelude.{◌≡◌, ◌≤◌, OnOk};
 ghost use Rattle.sec_base.specs.Sink.{IsWritten};
-ghost use Rattle.chip_words.specs.Texts.{record_text};
 ghost use Rattle.chip_main.specs.Course.{TellsCourse};
-ghost use Rattle.chip_main.specs.Texts.{refusal_text};
+ghost use Rattle.chip_device.specs.Buses.{run_history};
+ghost use Rattle.chip_main.specs.Texts.{pair_text, refusal_text, run_text};
 
 use crate::course::Course;
+use crate::second::Second;
+use chip_device::RunBus;
 use chip_files::Refusal;
 use chip_run::RunRecord;
 use chip_words::{
-    RunNote, asm_fault_line, elf_fault_line, long_file_line, read_fault_line, report_fault_line,
-    script_fault_line, tag_differs_line, tell_plain, tell_run, tell_usage, trace_fault_line,
-    value_fault_line, write_line,
+    RunNote, asm_fault_line, elf_fault_line, long_file_line, order_fault_line, read_fault_line,
+    report_fault_line, script_fault_line, second_line, tag_differs_line, tell_plain, tell_run,
+    tell_usage, trace_fault_line, value_fault_line, write_line,
 };
 use sec_base::{Sink, SinkStop};
 use std::alloc::Global;
@@ -32,6 +34,7 @@ pub fn tell<N: Sink>(alloc: Global, course: &Course, note: &mut N) -> Result<(),
         }
         Course::RanPlain(run) => tell_plain(alloc, run.ending, run.retired, note),
         Course::OtherTag => write_line(note, tag_differs_line()),
+        Course::RanPair(run, bus, second, _) => tell_pair(alloc, run, bus, second, note),
     }
 }
 
@@ -66,7 +69,27 @@ fn tell_refusal<N: Sink>(alloc: Global, refusal: &Refusal, note: &mut N) -> Resu
             let line = trace_fault_line(alloc, fault.code(), fault.name())?;
             write_line(note, line.as_str())
         }
+        Refusal::Order(error) => write_line(note, order_fault_line(alloc, error.place)?.as_str()),
     }
+}
+
+// The records of two programs that shared the core, the first one over this bus, with a line between them.
+fn tell_pair<N: Sink>(
+    alloc: Global,
+    run: &RunRecord,
+    bus: &RunBus,
+    second: &Second,
+    note: &mut N,
+) -> Result<(), SinkStop>
+    ensures told { IsWritten
+        (pair_text run.now (run_history bus.now).lies second.now.run second.now.lies)
+        (N.state note.old) (N.state note.new) result }
+    ensures faults { (N.state note.old).faults ≤ (N.state note.new).faults }
+    ensures quiet { OnOk result ((N.state note.new).faults ≡ (N.state note.old).faults) }
+{
+    tell_record(alloc, run, bus.lies(), note)?;
+    write_line(note, second_line())?;
+    tell_record(alloc, &second.run, second.lies, note)
 }
 
 fn tell_record<N: Sink>(
@@ -75,10 +98,7 @@ fn tell_record<N: Sink>(
     lies: u64,
     note: &mut N,
 ) -> Result<(), SinkStop>
-    ensures told { IsWritten
-        (record_text run.now.ending run.now.retired lies run.now.made run.now.evidence
-        run.now.report)
-        (N.state note.old) (N.state note.new) result }
+    ensures told { IsWritten (run_text run.now lies) (N.state note.old) (N.state note.new) result }
     ensures faults { (N.state note.old).faults ≤ (N.state note.new).faults }
     ensures quiet { OnOk result ((N.state note.new).faults ≡ (N.state note.old).faults) }
 {

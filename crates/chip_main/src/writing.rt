@@ -1,5 +1,5 @@
-// What is written of a program, of a run's trace and of a judge's verdict.
-ghost use Rattle.std.specs.Prelude.{◌≡◌, ◌<◌, ◌≤◌, ◌^◌, IfOk, string_bytes, OnOk};
+// What is written of a program, of a run's trace, of a judge's verdict and of two programs.
+ghost use Rattle.std.specs.Prelude.{◌≡◌, ◌<◌, ◌≤◌, ◌^◌, ◌++◌, IfOk, string_bytes, OnOk};
 ghost use Rattle.sec_base.specs.Segment.{segment_bytes};
 ghost use Rattle.sec_base.specs.Sink.{IsWritten};
 ghost use Rattle.chip_main.specs.Texts.{elf_file, measurement_line, trace_file, verdict_line};
@@ -74,4 +74,14 @@ pub fn write_verdict<O: Sink>(
         None => write_line(out, follows_line()),
         Some(difference) => write_line(out, difference_line(alloc, difference)?.as_str()),
     }
+}
+
+/// Writes what two programs printed, the first one's bytes and then the second one's.
+pub fn write_both<O: Sink>(first: &[u8], second: &[u8], out: &mut O) -> Result<(), SinkStop>
+    ensures told { IsWritten (first.now ++ second.now) (O.state out.old) (O.state out.new) result }
+    ensures faults { (O.state out.old).faults ≤ (O.state out.new).faults }
+    ensures quiet { OnOk result ((O.state out.new).faults ≡ (O.state out.old).faults) }
+{
+    write_all(out, first)?;
+    write_all(out, second)
 }
