@@ -5,8 +5,9 @@ use self::Shape::{Refused, Tree, WrongLevels};
 use bus_trace::Difference;
 use chip_words::ProgramForm::{AssemblyText, ElfFile, FlatFile};
 use chip_words::{
-    Execution, ProgramFile, ProgramForm, Request, Tags, ValueFault, WordsError, default_run,
-    difference_line, follows_line, read_words, trace_fault_line,
+    Execution, PairRun, ProgramFile, ProgramForm, Request, Tags, ValueFault, WordsError,
+    default_run, difference_line, follows_line, order_fault_line, read_words, second_line,
+    trace_fault_line,
 };
 use sec_base::Layout::{One, Two};
 use sec_base::{Geometry, Layout};
@@ -26,7 +27,7 @@ fn parts<'a>(request: &Request<'a>) -> Option<Parts<'a>> {
         Request::Measure(file) => Some(file_parts("measure", file)),
         Request::Trace(run) => Some(execution_parts("trace", &run.execution)),
         Request::Judge(judged) => Some(execution_parts("judge", &judged.execution)),
-        Request::Verify(_) | Request::Bench(_) => None,
+        Request::Verify(_) | Request::Bench(_) | Request::Pair(_) => None,
     }
 }
 
@@ -158,7 +159,7 @@ fn geometry(request: &Request<'_>) -> Option<Geometry> {
         Request::Judge(judged) => Some(judged.execution.file.geometry),
         Request::Plain(execution) => Some(execution.file.geometry),
         Request::Asm(file) | Request::Dis(file) | Request::Measure(file) => Some(file.geometry),
-        Request::Verify(_) | Request::Bench(_) => None,
+        Request::Verify(_) | Request::Bench(_) | Request::Pair(_) => None,
     }
 }
 
@@ -375,6 +376,12 @@ fn wrong_values(rt: HostRuntime) -> Result<(), Fail> {
         ("chip trace p --key 00", Some(ValueFault::Key)),
         ("chip trace p --nonce 00", Some(ValueFault::Nonce)),
         ("chip judge p t --tags md5", None),
+        ("chip pair a b", None),
+        ("chip pair a b --key 00", Some(ValueFault::Key)),
+        ("chip pair a b --key2 00", Some(ValueFault::Key)),
+        ("chip pair a b --key2=", Some(ValueFault::Key)),
+        ("chip pair a b --key2 00 --key 00", Some(ValueFault::Key)),
+        ("chip pair a b --key 00 --key2 00 --flat", None),
         ("chip run p --layout 2 --levels 6", Some(ValueFault::Levels)),
         (
             "chip trace p --layout 2 --levels 6 --tags md5",
@@ -422,6 +429,7 @@ fn wrong_values(rt: HostRuntime) -> Result<(), Fail> {
     assert_eq!(rt; ValueFault::Tags.name(), "tags");
     assert_eq!(rt; ValueFault::Key.name(), "key");
     assert_eq!(rt; ValueFault::Nonce.name(), "nonce");
+    assert_eq!(rt; ValueFault::Keys.name(), "keys");
     Ok(())
 }
 
@@ -435,7 +443,7 @@ const KEY_DIGITS: &str = "fffefdfcfbfaf9f8f7f6f5f4f3f2f1f0efeeedecebeae9e8e7e6e5
 const NONCE_DIGITS: &str = "101112131415161718191a1b1c1d1e1f";
 
 // A line of words, how many zeros stand behind it, and the value that doesn't have its form.
-const LENGTHS: [(&str, usize, Option<ValueFault>); 12] = [
+const LENGTHS: [(&str, usize, Option<ValueFault>); 18] = [
     ("chip run p --key", 62, Some(ValueFault::Key)),
     ("chip run p --key", 63, Some(ValueFault::Key)),
     ("chip run p --key", 64, None),
@@ -448,6 +456,12 @@ const LENGTHS: [(&str, usize, Option<ValueFault>); 12] = [
     ("chip run p --nonce", 32, None),
     ("chip run p --nonce", 33, Some(ValueFault::Nonce)),
     ("chip run p --nonce", 64, Some(ValueFault::Nonce)),
+    ("chip pair a b --key", 63, Some(ValueFault::Key)),
+    ("chip pair a b --key", 64, None),
+    ("chip pair a b --key", 65, Some(ValueFault::Key)),
+    ("chip pair a b --key2", 63, Some(ValueFault::Key)),
+    ("chip pair a b --key2", 64, None),
+    ("chip pair a b --key2", 65, Some(ValueFault::Key)),
 ];
 
 #[test]
@@ -613,6 +627,165 @@ fn lines_of_judged_traces(rt: HostRuntime) -> Result<(), Fail> {
     Ok(())
 }
 
+// The first program and the second one, the order of their turns, and the script of each.
+type Sides<'a> = (
+    &'a str,
+    &'a str,
+    Option<&'a str>,
+    Option<&'a str>,
+    Option<&'a str>,
+);
+
+fn sides<'a>(pair: &PairRun<'a>) -> Sides<'a> {
+    (
+        pair.first.name,
+        pair.second.name,
+        pair.order,
+        pair.first.script,
+        pair.second.script,
+    )
+}
+
+// Whether a line of words asks for these two programs.
+fn pairs(alloc: Global, line: &str, expected: Sides<'_>) -> Result<bool, AllocError> {
+    let words: Vec<&str> = line.split_whitespace().collect(alloc)?;
+    let Ok(Request::Pair(pair)) = read_words(alloc, words.as_slice()) else {
+        return Ok(false);
+    };
+    Ok(sides(&pair) == expected)
+}
+
+// The first word that is no option and no option's value is the first program, and the second is the second one.
+#[test]
+fn pairs_of_programs(rt: HostRuntime) -> Result<(), Fail> {
+    let rows: [(&str, Sides<'_>); 9] = [
+        ("chip pair a b", ("a", "b", None, None, None)),
+        ("chip pair b a", ("b", "a", None, None, None)),
+        ("chip pair a a", ("a", "a", None, None, None)),
+        ("chip pair a b --order o", ("a", "b", Some("o"), None, None)),
+        (
+            "chip pair a --script s b",
+            ("a", "b", None, Some("s"), None),
+        ),
+        (
+            "chip pair --script2=s a b",
+            ("a", "b", None, None, Some("s")),
+        ),
+        (
+            "chip pair --script2 t a --order=o b --script s",
+            ("a", "b", Some("o"), Some("s"), Some("t")),
+        ),
+        (
+            "chip pair --script s --script2 s a --order s s",
+            ("a", "s", Some("s"), Some("s"), Some("s")),
+        ),
+        (
+            "chip pair -- --order --script2",
+            ("--order", "--script2", None, None, None),
+        ),
+    ];
+    for (line, expected) in rows {
+        assert!(rt; pairs(rt.alloc(), line, expected)?, "{line}");
+    }
+    Ok(())
+}
+
+// What else stands in the words of two programs, and the first byte of each key. The next bytes count up from there.
+const PAIR_KEYS: [(&[&str], u8, u8); 4] = [
+    (&[], 0x00, 0x20),
+    (&["--key", HIGH_DIGITS], 0xc0, 0x20),
+    (&["--key2", HIGH_DIGITS], 0x00, 0xc0),
+    (
+        &["--key2", DEFAULT_DIGITS, "--key", SECOND_DIGITS],
+        0x20,
+        0x00,
+    ),
+];
+
+const HIGH_DIGITS: &str = "C0C1C2C3C4C5C6C7C8C9CACBCCCDCECFD0D1D2D3D4D5D6D7d8d9dadbdcdddedf";
+
+const HIGH_IN_OTHER_CASE: &str = "c0c1c2c3c4c5c6c7c8c9cacbcccdcecfd0d1d2d3d4d5d6d7D8D9DADBDCDDDEDF";
+
+const DEFAULT_DIGITS: &str = "000102030405060708090a0b0c0d0e0f101112131415161718191a1b1c1d1e1f";
+
+const SECOND_DIGITS: &str = "202122232425262728292a2b2c2d2e2f303132333435363738393a3b3c3d3e3f";
+
+// Whether a key's bytes count up from this one.
+fn counts_from(key: &[u8; 32], first: u8) -> bool {
+    let mut next = first;
+    for byte in key {
+        if *byte != next {
+            return false;
+        }
+        next = next.wrapping_add(1);
+    }
+    true
+}
+
+// Whether words ask for two programs under the keys that count up from these bytes.
+fn have_keys(alloc: Global, words: &[&str], first: u8, second: u8) -> bool {
+    let Ok(Request::Pair(pair)) = read_words(alloc, words) else {
+        return false;
+    };
+    counts_from(&pair.first.device_key, first) && counts_from(&pair.second.device_key, second)
+}
+
+#[test]
+fn keys_of_pairs(rt: HostRuntime) -> Result<(), Fail> {
+    for (options, first, second) in PAIR_KEYS {
+        let mut words = Vec::from_slice(rt.alloc(), &["chip", "pair", "a", "b"])?;
+        words.extend_from_slice(options)?;
+        let holds = have_keys(rt.alloc(), words.as_slice(), first, second);
+        assert!(rt; holds, "{options:?}");
+    }
+    Ok(())
+}
+
+// The value that is refused, where keys are equal or lack their form.
+#[test]
+fn equal_keys(rt: HostRuntime) -> Result<(), Fail> {
+    let rows = [
+        ("", DEFAULT_DIGITS, Some(ValueFault::Keys)),
+        (SECOND_DIGITS, "", Some(ValueFault::Keys)),
+        (HIGH_DIGITS, HIGH_DIGITS, Some(ValueFault::Keys)),
+        (HIGH_DIGITS, HIGH_IN_OTHER_CASE, Some(ValueFault::Keys)),
+        (HIGH_DIGITS, SECOND_DIGITS, None),
+        (SECOND_DIGITS, DEFAULT_DIGITS, None),
+        ("00", "00", Some(ValueFault::Key)),
+    ];
+    for (first, second, fault) in rows {
+        let words = pair_line(rt.alloc(), first, second)?;
+        assert_eq!(rt; wrong_value(rt.alloc(), words.as_str())?, fault, "{words}");
+    }
+    Ok(())
+}
+
+// A line of words for two programs with these keys, where they are not empty.
+fn pair_line(alloc: Global, first: &str, second: &str) -> Result<String, AllocError> {
+    if first.is_empty() {
+        format!(in alloc; "chip pair a b --key2 {second}")
+    } else if second.is_empty() {
+        format!(in alloc; "chip pair a b --key {first}")
+    } else {
+        format!(in alloc; "chip pair a b --key2 {second} --key {first}")
+    }
+}
+
+#[test]
+fn lines_of_pairs(rt: HostRuntime) -> Result<(), Fail> {
+    assert_eq!(rt; second_line(), "second\n");
+    let rows = [
+        (0, "refused order 0\n"),
+        (1_048_575, "refused order 1048575\n"),
+        (usize::MAX, "refused order 18446744073709551615\n"),
+    ];
+    for (place, expected) in rows {
+        let line = order_fault_line(rt.alloc(), place)?;
+        assert_eq!(rt; line.as_str(), expected);
+    }
+    Ok(())
+}
+
 // The number of the generated program that a line of words asks for.
 fn workload(alloc: Global, line: &str) -> Result<Option<u32>, AllocError> {
     let words: Vec<&str> = line.split_whitespace().collect(alloc)?;
@@ -749,6 +922,31 @@ fn refusals(rt: HostRuntime) -> Result<(), Fail> {
         "chip judge p --trace t",
         "chip judge p t --levels 9",
         "chip judge p t --steps",
+        "chip pair",
+        "chip pair a",
+        "chip pair --order a b",
+        "chip pair a b c",
+        "chip pair a b --flat",
+        "chip pair a b --input i",
+        "chip pair a b --steps 3",
+        "chip pair a b --levels 4",
+        "chip pair a b --layout 1",
+        "chip pair a b --nonce 00",
+        "chip pair a b --tags hmac",
+        "chip pair a b --page-limit 1",
+        "chip pair a b --input2 i",
+        "chip pair a b --order",
+        "chip pair a b --script2",
+        "chip pair a b --key2",
+        "chip pair a b --order o --order o",
+        "chip pair a b --script2 s --script2 s",
+        "chip pair a b --key2 00 --key2 00",
+        "chip run p --order o",
+        "chip run p --script2 s",
+        "chip run p --key2 00",
+        "chip trace p --order o",
+        "chip judge p t --order o",
+        "chip verify r --key2 00",
         "chip assemble p",
         "chip --flat run p",
         "chip frob",
@@ -811,12 +1009,33 @@ Options:
   -h, --help          Print help
 ";
 
+// Two programs, and the defaults of both keys.
+const PAIR_HELP: &str = "\
+Runs two programs that share the core
+
+Usage: chip pair [OPTIONS] <FILE1> <FILE2>
+
+Arguments:
+  <FILE1>  The first program
+  <FILE2>  The second program
+
+Options:
+      --order <F>    Whose turn it is, over and over: a byte 00 or 01 for each; 00 01 by default
+      --script <F>   What an adversary does to the memory outside the chip, nothing by default
+      --script2 <F>  What an adversary does to the second program's memory, nothing by default
+      --key <HEX>    The key of the device, of 64 digits [default: 000102030405060708090a0b0c0d0e0f101112131415161718191a1b1c1d1e1f]
+      --key2 <HEX>   The key of the second program's device, of 64 digits [default: 202122232425262728292a2b2c2d2e2f303132333435363738393a3b3c3d3e3f]
+  -h, --help         Print help
+";
+
 #[test]
 fn help_of_a_command(rt: HostRuntime) -> Result<(), Fail> {
     let text = usage(rt.alloc(), "chip asm --help")?.ok_or("no text")?;
     assert_eq!(rt; text.as_str(), ASM_HELP);
     let text = usage(rt.alloc(), "chip judge --help")?.ok_or("no text")?;
     assert_eq!(rt; text.as_str(), JUDGE_HELP);
+    let text = usage(rt.alloc(), "chip pair --help")?.ok_or("no text")?;
+    assert_eq!(rt; text.as_str(), PAIR_HELP);
     let text = usage(rt.alloc(), "chip trace --help")?.ok_or("no text")?;
     let first = "Runs a program on protected memory, and writes down what its bus saw\n";
     assert!(rt; text.as_str().starts_with(first), "{text}");
