@@ -34,7 +34,8 @@ RECORDS = "crates/chip_run/specs/Run.antt"
 THEOREM, PROOFS, CODE_PAGE = "docs/THEOREM.md", "docs/PROOFS.md", "docs/CODE.md"
 GENERATED = ["docs/CONTRACTS.md", "docs/DEFINITIONS.md", *sorted(glob.glob("docs/definitions/*.md", root_dir=TOP))]
 TRACES = "examples/traces/README.md"
-WITH_COMMANDS = ["README.md", "examples/README.md", GALLERY, TRACES, "docs/C-PROGRAMS.md", "docs/FORMATS.md", "bench/README.md"]
+PAIRS = "examples/pairs/README.md"
+WITH_COMMANDS = ["README.md", "examples/README.md", GALLERY, TRACES, PAIRS, "docs/C-PROGRAMS.md", "docs/FORMATS.md", "bench/README.md"]
 # CHANGELOG names what is gone; generated pages have their names from the sources.
 WITHOUT_NAMES = ["CHANGELOG.md", *GENERATED]
 README_WORDS, ALL_WORDS = 1700, 30000
