@@ -10,7 +10,8 @@ Saves are made before access 1, when all of the memory is zeros. The attacks on 
 and nodes go out, under tags of each kind too; so are those on the last places of a memory of 8 levels.
 
 --gallery prints in place of that what each script of examples/attacks comes to, by the commands of its README, under the
-layout that --layout names (1 or 2, default 1). It is no reader of scripts: it refuses none.
+layout that --layout names (1 or 2, default 1). It is no reader of scripts: it refuses none. --pairs prints what the pairs of
+examples/pairs come to that name no order of turns, each side by itself under its own key.
 """
 
 import argparse
@@ -32,7 +33,8 @@ TOP = os.path.dirname(os.path.dirname(os.path.abspath(__file__)))
 TESTS = os.path.join(TOP, "crates", "test_hostile", "src")
 TEXTS = os.path.join(TOP, "crates", "chip_cases", "src", "texts.rt")
 GALLERY = os.path.join(TOP, "examples", "attacks", "README.md")
-DEVICE_KEY = bytes(range(32))
+PAIRS = os.path.join(TOP, "examples", "pairs", "README.md")
+DEVICE_KEY, SECOND_KEY = bytes(range(32)), bytes(range(32, 64))
 LARGEST = model.Shape(1, 8)
 NO_TAG = bytes(16)  # in the place of a tag: of a node that was never made, which is zeros and is not read
 
@@ -155,9 +157,9 @@ class Cache:
 class Chip:
     """The protected memory. A slice of it inside one line is read and written as one of a bytearray."""
 
-    def __init__(self, bus, tags, shape):
+    def __init__(self, bus, tags, shape, device_key):
         self.bus, self.tags, self.shape, self.evidence = bus, tags, shape, []
-        keys = {name: hmac.digest(DEVICE_KEY, name.encode(), "sha256") for name in ("enc", "data", "tree")}
+        keys = {name: hmac.digest(device_key, name.encode(), "sha256") for name in ("enc", "data", "tree")}
         self.aes = Cipher(algorithms.AES(keys["enc"][:16]), modes.ECB()).encryptor()
         self.keys, self.made, self.last = keys, set(), {}
         self.lines = Cache(64)
@@ -272,8 +274,11 @@ class Chip:
 
 def run(code, tags="hmac", script="", shape=model.Shape()):
     """What is printed, and what is told before the report."""
-    bus = Bus(script)
-    chip, printed, retired = Chip(bus, tags, shape), b"", 0
+    return run_over(Bus(script), code, tags, shape)
+
+
+def run_over(bus, code, tags="hmac", shape=model.Shape(), device_key=DEVICE_KEY):
+    chip, printed, retired = Chip(bus, tags, shape, device_key), b"", 0
     registers, pc, ending = [0, 0, shape.size - 64] + [0] * 29, 0, None
     try:
         for at, byte in enumerate(code):
@@ -426,10 +431,45 @@ SHOWN = re.compile(r"^    \$ \./chip run (\w+)\.elf --script (\S+)(?: --tags (\w
 
 def gallery(shape):
     for name, path, tags in SHOWN.findall(text_of(GALLERY)):
-        code = assembled(text_of(os.path.join(TOP, "examples", name + ".s")))
-        script = "".join(line for line in text_of(os.path.join(TOP, path)).splitlines(True) if not line.startswith("#"))
-        printed, told = run(code, tags or "hmac", script, shape)
+        printed, told = run(example(name), tags or "hmac", script_in(path), shape)
         print(f"{os.path.basename(path)}, {name}, {tags or 'hmac'}: {printed + told}", end="")
+
+
+def example(name):
+    return assembled(text_of(os.path.join(TOP, "examples", name + ".s")))
+
+
+def script_in(path):
+    return "".join(line for line in text_of(os.path.join(TOP, path)).splitlines(True) if not line.startswith("#"))
+
+
+# --- pairs -----------------------------------------------------------------------------------------------------------
+
+PAIRED = re.compile(r"^    \$ \./chip pair (\w+)\.elf (\w+)\.elf((?: --\w+ [^\s;]+)*)", re.MULTILINE)
+# The script that the page makes: line 5 is answered with what the first program wrote there under the first default key.
+MADE, COPIED = "copy_across.script", ("data", 5)
+
+
+def pairs():
+    for first, second, words in PAIRED.findall(text_of(PAIRS)):
+        options = dict(re.findall(r"--(\w+) (\S+)", words))
+        if "order" in options:
+            continue
+        keys = [bytes.fromhex(options.get(name, key.hex())) for name, key in (("key", DEVICE_KEY), ("key2", SECOND_KEY))]
+        scripts = [script_of_pair(options.get(name), first) for name in ("script", "script2")]
+        if keys[0] == keys[1]:
+            print(f"{first}, {second}{words}: usage keys")
+            continue
+        sides = [run_over(Bus(script), example(name), device_key=key) for name, script, key in zip((first, second), scripts, keys)]
+        print(f"{first}, {second}{words}: {sides[0][0]}{sides[1][0]}{sides[0][1]}second\n{sides[1][1]}", end="")
+
+
+def script_of_pair(path, first):
+    if path != MADE:
+        return script_in(path) if path else ""
+    bus = Bus("")
+    run_over(bus, example(first))
+    return f"read {named(COPIED)} 1: put {named(COPIED)} {bus.written[COPIED].hex()}\n"
 
 
 def check():
@@ -450,8 +490,11 @@ def main():
     parser = argparse.ArgumentParser(description=__doc__, formatter_class=argparse.RawDescriptionHelpFormatter)
     parser.add_argument("--gallery", action="store_true", help="what the scripts of examples/attacks come to")
     parser.add_argument("--layout", type=int, choices=model.LAYOUTS, default=1, metavar="N", help="1 or 2, default 1")
+    parser.add_argument("--pairs", action="store_true", help="what the pairs of examples/pairs come to")
     options = parser.parse_args()
-    if options.gallery:
+    if options.pairs:
+        pairs()
+    elif options.gallery:
         gallery(model.Shape(options.layout))
     else:
         check()
