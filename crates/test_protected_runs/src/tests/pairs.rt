@@ -22,9 +22,9 @@ fn one_is_attacked(
     let setup = setup(geometry, 99, u64::MAX);
     let bus1 = FlipBus::new(alloc, geometry, Place::Line(255), 1, 0, 1)?;
     let bus2 = FlipBus::new(alloc, geometry, LINE_64, 1, 0, 1)?;
-    if check_order(order).is_err() {
+    let Ok(()) = check_order(order) else {
         return Err("no order".into());
-    }
+    };
     let first = Side {
         image: &image,
         input: &[],
