@@ -151,24 +151,34 @@ fn check_texts(
     Ok(())
 }
 
-fn check_row(rt: &impl Abort, alloc: Global, row: Row) -> Result<(), NoMemory> {
-    let both = call_row(alloc, row)?;
+fn calls_alone(alloc: Global, row: Row) -> Result<(Call, Call), NoMemory> {
     let (_, _, key) = row.first;
     let first = call_alone(alloc, row, "a", "s", key)?;
     let (_, _, key2) = row.second;
     let second = call_alone(alloc, row, "b", "t", key2)?;
-    check_texts(rt, alloc, &both, &first, &second)?;
+    Ok((first, second))
+}
+
+fn check_answers(rt: &impl Abort, row: Row, both: &Call, first: &Call, second: &Call) {
     let (lies, lies2) = row.lies;
     assert_eq!(rt; (both.done.lies, first.done.lies), (lies, lies));
-    assert_eq!(rt;
-        (second_lies(&both), second.done.lies),
-        (Some(lies2), lies2)
-    );
+    assert_eq!(rt; (second_lies(both), second.done.lies), (Some(lies2), lies2));
     assert_eq!(rt;
         (both.done.status, both.ending()),
         (row.status, first.ending())
     );
+}
+
+fn check_beside(rt: &impl Abort, alloc: Global, row: Row, both: &Call) -> Result<(), NoMemory> {
+    let (first, second) = calls_alone(alloc, row)?;
+    check_answers(rt, row, both, &first, &second);
+    check_texts(rt, alloc, both, &first, &second)?;
     Ok(())
+}
+
+fn check_row(rt: &impl Abort, alloc: Global, row: Row) -> Result<(), NoMemory> {
+    let both = call_row(alloc, row)?;
+    check_beside(rt, alloc, row, &both)
 }
 
 #[test]
