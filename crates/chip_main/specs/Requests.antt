@@ -124,8 +124,8 @@ pub record Judges (judge : JudgeAsked) (files files' : FilesState) (out out' : S
   pub written : IsWritten (verdict_line difference) out out' telling
 
 -- Two programs shared the core. Both are those that the request names, and so are the scripts of their adversaries; the order
--- of turns was read, and what each program comes to is the same in every order. Each has the terms of a run that names no option,
--- but for its key, and no input. Each bus was new and follows just its own script; each program has the theorem of a run, and
+-- of turns was read, and nothing below says that it was kept. Each has the terms of a run that names no option, but for its key,
+-- and no input. Each bus was new and follows just its own script; each program has the theorem of a run, and
 -- without evidence comes to what it comes to alone. What the first one printed was written, and then what the second one did, as
 -- far as the answer says.
 pub record Pairs (asked : PairAsked) (files files' : FilesState) (out out' : SinkState) (run : RunRecord) (bus : RunBus) (second : Second) (telling : Telling)
