@@ -94,6 +94,7 @@ impl<'a, P: Processor, M: Ram> Execution<'a, P, M> {
     }
 
     /// Does one instruction, where the budget allows one more. It returns how the run ended, if it did.
+    #[inline(always)]
     pub fn turn<S: Sink>(&mut self, out: &mut S) -> Option<Ending>
         requires within { self.old.retired ≤ self.old.budget }
         requires going { M.stopped self.old.memory ≡ None }
@@ -104,6 +105,8 @@ impl<'a, P: Processor, M: Ram> Execution<'a, P, M> {
             PrintsAndEnds (semantics_of P.core M.contents M.extent M.sound M.stopped M.moved) ending
             (S.state out.old) (S.state out.new) self.old self.new) }
         ensures out_of_steps { (result ≡ Some OutOfSteps) ↔ (self.old.retired ≡ self.old.budget) }
+        ensures used_up { result ≡ Some OutOfSteps →
+            (self.new ≡ self.old) × (out.new ≡ out.old) }
         ensures retired { self.new.retired ≡ retired_after result self.old.retired }
     {
         if self.retired == self.budget {
