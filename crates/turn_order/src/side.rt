@@ -31,6 +31,7 @@ impl Side {
 }
 
 /// The side that a byte of an order names.
+#[inline(always)]
 pub fn side_of(byte: u8) -> Side
     ensures { result ≡ spec.side_of byte }
 {

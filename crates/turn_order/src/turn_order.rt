@@ -72,8 +72,10 @@ impl<'a> TurnOrder<'a> {
         side_left(ended0, ended1)
     }
 
-    // The next entry, which comes again after all others.
-    fn pass(&mut self) -> Side
+    /// The side that the next entry names, which is used up, whether it has ended or not. Of sides that both go on it is the one
+    /// that `next` tells.
+    #[inline(always)]
+    pub fn pass(&mut self) -> Side
         ensures entry { slice_get self.old 0 ≡ Some result }
         ensures begun_anew { self.new ≡ round_from 1 self.old }
     {
